@@ -1,0 +1,5 @@
+pub mod Fields
+pub mod Messages
+pub mod Numbers
+pub mod Segments
+pub mod Serial

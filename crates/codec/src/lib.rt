@@ -1,0 +1,32 @@
+// Numbers, headers and messages of a log as bytes.
+mod error;
+mod little;
+mod message;
+mod message_header;
+mod number;
+mod segment;
+mod serialization;
+mod word;
+
+pub use error::CodecError;
+pub use error::CodecErrorDebug;
+pub use error::CodecErrorPartialEq;
+pub use message::Message;
+pub use message::calculate_message_crc32;
+pub use message_header::MAX_MSG_HEADER_LEN;
+pub use message_header::MessageHeader;
+pub use message_header::MessageHeaderSerialize;
+pub use message_header::PageId;
+pub use number::number_len;
+pub use segment::SegmentHeader;
+pub use segment::SegmentHeaderSerialize;
+pub use serialization::Serialize;
+pub use serialization::U8Serialize;
+pub use serialization::U32Serialize;
+pub use serialization::U64Serialize;
+pub use serialization::round_trip;
+pub use word::Lsn;
+pub use word::Word;
+pub use word::WordDebug;
+pub use word::WordPartialEq;
+pub use word::WordSerialize;
