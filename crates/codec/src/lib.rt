@@ -11,6 +11,7 @@ mod word;
 pub use error::CodecError;
 pub use error::CodecErrorDebug;
 pub use error::CodecErrorPartialEq;
+pub use little::has_room;
 pub use message::Message;
 pub use message::calculate_message_crc32;
 pub use message_header::MAX_MSG_HEADER_LEN;

@@ -51,7 +51,7 @@ pub(crate) fn get_field(buf: &[u8], k: usize) -> Result<(u64, &[u8]), CodecError
 }
 
 // Whether `n` bytes fit from `at` on in a buffer of `len`.
-pub(crate) fn has_room(len: usize, at: usize, n: usize) -> bool
+pub fn has_room(len: usize, at: usize, n: usize) -> bool
     ensures { λ r. ⌜ r ≡ leb (at + n) len ⌝ }
 {
     at <= len && n <= len - at

@@ -1,4 +1,10 @@
 // Numbers as sled writes and reads them; headers and messages worked out by hand from the format.
+use blobs::BlobFiles;
+use blobs::Extent;
+use blobs::Note;
+use blobs::NoteDebug;
+use blobs::NotePartialEq;
+use blobs::read_blob;
 use codec::CodecError;
 use codec::CodecErrorDebug;
 use codec::CodecErrorPartialEq;
@@ -15,6 +21,8 @@ use layout::MessageKind;
 use layout::is_segment_size;
 use layout::segment_count;
 use std::test::*;
+use tables::Entry;
+use tables::SortedTable;
 
 fn check_number(n: u64, bytes: &[u8]) -> Result<(), Fail> {
     let mut buf = [0xAAu8; 10];
@@ -157,4 +165,51 @@ fn sizes_and_counts() -> Result<(), Fail> {
     check_eq(segment_count(275, 256), Some(1))?;
     check_eq(segment_count(276, 256), Some(2))?;
     check_eq(segment_count(276, 0), None)
+}
+
+// Kind 9 with the body hello.
+const BLOB: [u8; 10] = [0xF0, 0xA1, 0xFF, 0x66, 0x09, 0x68, 0x65, 0x6C, 0x6C, 0x6F];
+
+#[test]
+fn blob_files() -> Result<(), Fail> {
+    check_eq(
+        read_blob(&BLOB),
+        Note {
+            kind: 9,
+            sound: true,
+        },
+    )?;
+    check_eq(
+        read_blob(&[0x29, 0x57, 0xDE, 0xAB, 0x09]),
+        Note {
+            kind: 9,
+            sound: true,
+        },
+    )?;
+    check_eq(read_blob(&[0x29, 0x57, 0xDE, 0xAB]), Note::DAMAGED)?;
+    check_eq(
+        read_blob(&BLOB[0..9]),
+        Note {
+            kind: 9,
+            sound: false,
+        },
+    )?;
+    check_eq(read_blob(&[]), Note::DAMAGED)
+}
+
+#[test]
+fn bank_limits() -> Result<(), Fail> {
+    let blank = Extent { start: 0, len: 0 };
+    let mut entries = [Entry {
+        key: 0,
+        value: blank,
+    }; 1];
+    let mut bytes = [0u8; 20];
+    let mut extents = SortedTable::new(&mut entries, blank);
+    let mut files = BlobFiles::new(&mut bytes);
+    check(files.add(&mut extents, 5, &BLOB).is_ok())?;
+    check(files.add(&mut extents, 6, &BLOB).is_err())?;
+    check(files.add(&mut extents, 5, &[0; 11]).is_err())?;
+    check(files.add(&mut extents, 5, &BLOB).is_ok())?;
+    check(files.add(&mut extents, 5, &[]).is_ok())
 }

@@ -1,7 +1,16 @@
-// Lists the segments of a log file: inspect SIZE FILE.
+// Lists the segments of a log file, and the blobs of a folder: inspect SIZE FILE [BLOBS].
+mod folder;
 mod verdict;
 
 use codec::Word;
+use device::Device;
+use device::Image;
+use device::ImageDevice;
+use device::ImageReadAt;
+use device::ReadAt;
+use device::SetupErrorDebug;
+use folder::list_blobs;
+use layout::SEG_HEADER_LEN;
 use layout::is_segment_size;
 use layout::segment_count;
 use std::env;
@@ -10,10 +19,12 @@ use std::fs;
 use verdict::Verdict;
 use verdict::judge;
 
-const USAGE: &str = "usage: inspect SIZE FILE
+const USAGE: &str = "usage: inspect SIZE FILE [BLOBS]
 
 Lists each segment of a log file, with its LSN and stable mark where its header
-checks. SIZE is the segment size in bytes, a power of two from 256 to 1048576.";
+checks, and then each blob file in the folder BLOBS, with its kind where it is
+sound. SIZE is the segment size in bytes, a power of two from 256 to 1048576.
+Blob files are named by their pointer, in decimal; others are passed over.";
 
 fn print_header(rt: &LibcRuntime, what: &str, lsn: Word, mark: Word) -> Result<(), AnyError> {
     let lsn = lsn.signed();
@@ -27,10 +38,10 @@ fn print_segment(
     rt: &LibcRuntime,
     index: u64,
     offset: u64,
-    bytes: &[u8],
+    header: &[u8],
 ) -> Result<bool, AnyError> {
     print!(rt, "segment {index} at {offset}: ")?;
-    match judge(bytes) {
+    match judge(header) {
         Verdict::Used(h) => {
             print_header(rt, "used", h.lsn, h.max_stable_lsn)?;
             Ok(true)
@@ -51,21 +62,15 @@ fn print_segment(
     }
 }
 
-// The bytes from `offset` on; none past the end.
-fn from_offset(bytes: &[u8], offset: u64) -> &[u8] {
-    let at = offset as usize;
-    if at > bytes.len() {
-        return &[];
-    }
-    &bytes[at..]
-}
-
-fn list_segments(rt: &LibcRuntime, bytes: &[u8], size: u64) -> Result<(), AnyError> {
-    let count = segment_count(bytes.len() as u64, size).unwrap_or(0);
+fn list_segments(rt: &LibcRuntime, log: &Image) -> Result<(), AnyError> {
+    let size = log.block_size();
+    let count = segment_count(log.len(), size).unwrap_or(0);
     let mut used = 0u64;
     for index in 0..count {
         let offset = index.saturating_mul(size);
-        if print_segment(rt, index, offset, from_offset(bytes, offset))? {
+        let mut header = [0u8; SEG_HEADER_LEN];
+        let _ = log.pread_exact(&mut header, offset);
+        if print_segment(rt, index, offset, &header)? {
             used = used.saturating_add(1);
         }
     }
@@ -79,9 +84,13 @@ fn inspect(rt: &LibcRuntime, size: &str, file: &str) -> Result<(), AnyError> {
     if !is_segment_size(size) {
         return Err("SIZE is no power of two from 256 to 1048576".into());
     }
-    match fs::read(rt, file) {
-        Ok(bytes) => list_segments(rt, &bytes, size),
-        Err(e) => Err(format!(rt.alloc(), "cannot read {file}: {e}")?.into()),
+    let bytes = match fs::read(rt, file) {
+        Ok(bytes) => bytes,
+        Err(e) => return Err(format!(rt.alloc(), "cannot read {file}: {e}")?.into()),
+    };
+    match Image::from_bytes(rt.alloc(), size, bytes.len() as u64, &bytes) {
+        Ok(log) => list_segments(rt, &log),
+        Err(_) => Err("there is no memory for the log".into()),
     }
 }
 
@@ -93,7 +102,11 @@ fn run(rt: &LibcRuntime) -> Result<(), AnyError> {
             Ok(())
         }
         [size, file] => inspect(rt, size.as_str(), file.as_str()),
-        _ => Err("it takes SIZE and FILE; --help says more".into()),
+        [size, file, blobs] => {
+            inspect(rt, size.as_str(), file.as_str())?;
+            list_blobs(rt, blobs.as_str())
+        }
+        _ => Err("it takes SIZE, FILE and perhaps BLOBS; --help says more".into()),
     }
 }
 

@@ -1,0 +1,5 @@
+mod Clipped
+mod Entries
+mod Fresh
+mod Shown
+mod Writes

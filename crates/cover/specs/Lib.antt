@@ -1,0 +1,4 @@
+pub mod Entries
+pub mod Made
+pub mod Meaning
+pub mod Shown
