@@ -1,13 +1,12 @@
 -- A file that is added is held, and the others stay. Assumes nothing.
-use mathlib.Core.Bool.{Bool, true, false, cond}
 use mathlib.Core.List.{List, [], _∷_, _++_, append-assoc}
 use mathlib.Core.Logic.{⊎-elim}
-use mathlib.Core.Path.{_≡_, refl, sym, ap, ap₂, _∙_, subst}
+use mathlib.Core.Path.{_≡_, refl, sym, ap, _∙_, subst}
 use Prim.Native.Nat.{ℕ, _+_, _-_, _≤_}
 use native.Mathlib.Omega.{arith}
 use lib.Dec.{eqb}
-use lib.ListN.{length, take, drop, length-take}
-use lib.Seq.{sets, sets-eq, length-sets, drop-at, take-at, take-append-le, drop-append-le, drop-drop}
+use lib.ListN.{length, take, drop}
+use lib.Seq.{sets, sets-eq, length-sets, drop-at, take-at, take-append-le, drop-append-le}
 use Rattle.std.proofs.shelf.Lists.{drop-take, take-take, length-take-le, length-drop}
 use Rattle.std.proofs.shelf.Tests.{cond-true, cond-false, cases-eq, eq-eqb, ne-eqb}
 use Rattle.std.specs.Options.{mapped}

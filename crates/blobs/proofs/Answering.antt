@@ -10,7 +10,7 @@ use Rattle.std.specs.declared.option.Option.{Option}
 use Rattle.std.specs.declared.option.Option.the-variants.{Some, None}
 use Rattle.tables.specs.Entries.{find}
 use Rattle.tables.specs.declared.entry.Entry.{Entry}
-use Rattle.blobs.specs.Banks.{cut, noteAt, banked, Files, fileOf, Holds, Knows}
+use Rattle.blobs.specs.Banks.{cut, noteAt, banked, Files, Holds, Knows}
 use Rattle.blobs.specs.Files.{noteOf}
 use Rattle.blobs.specs.declared.note.Extent.{Extent}
 use Rattle.blobs.specs.declared.note.Note.{Note}

@@ -1,24 +1,24 @@
 -- Messages and their headers. Assumes nothing.
 use mathlib.Core.Path.{_≡_, refl, sym, ap, ap₂, _∙_}
 use mathlib.Core.List.{List, [], _∷_, _++_, append-assoc}
-use Prim.Native.Nat.{ℕ, suc, _+_, _-_, _≤_, _<_, _^_}
+use Prim.Native.Nat.{ℕ, _+_, _-_, _≤_}
 use native.Mathlib.Omega.{arith}
-use lib.ListN.{length, take, drop, length-append}
+use lib.ListN.{length, take, length-append}
 use lib.Seq.{sets, drop-at}
 use denote.Ref.{now}
 use Rattle.checksum.specs.Crc.{crc32}
 use Rattle.std.specs.declared.option.Option.{Option}
-use Rattle.std.specs.declared.option.Option.the-variants.{Some, None}
+use Rattle.std.specs.declared.option.Option.the-variants.{Some}
 use Rattle.layout.specs.Kinds.{kindNumber, kindOf}
 use Rattle.codec.specs.Messages.{behind, messageHeader, MessageFits, readMessageHeader, messageSum, messageOf, message, written}
-use Rattle.codec.specs.Numbers.{octets, field, second, number, shortest}
+use Rattle.codec.specs.Numbers.{octets, second, number, shortest}
 use Rattle.codec.specs.Segments.{complement}
 use Rattle.codec.specs.Serial.{next}
 use Rattle.layout.specs.declared.kind.MessageKind.{MessageKind}
 use Rattle.layout.specs.declared.kind.MessageKind.the-variants.{Corrupted, Canceled, Cap, BatchManifest, Free, Counter, InlineMeta, BlobMeta, InlineNode, BlobNode, InlineLink, BlobLink}
 use Rattle.codec.specs.declared.message.Message.{Message}
 use Rattle.codec.specs.declared.message_header.MessageHeader.{MessageHeader}
-use Rattle.codec.proofs.Forms.{number-back, length-shortest}
+use Rattle.codec.proofs.Forms.{number-back}
 use Rattle.codec.proofs.Octets.{field-back, length-octets}
 use Rattle.codec.proofs.Writes.{sets-then, take-front}
 
@@ -64,15 +64,6 @@ put-header h l m1 m2 m3 m4 m5 at a2 a3 e1 e2 e3 n2 e4 n3 e5 =
     (sets-then m3 m4 m5 a2 a3 b c e4 n3 e5)))
 
 -- ---- there and back
-afterSegment : MessageHeader → List ℕ → Option (MessageHeader × List ℕ)
-afterSegment h bs =
-    next (number bs) λ page rest. Some (record { crc32 = h .crc32; kind = h .kind; len = h .len; «segment_number» = h .«segment_number»; pid = page }, rest)
-
-afterLen : MessageHeader → List ℕ → Option (MessageHeader × List ℕ)
-afterLen h bs =
-    next (number bs) λ segment bs. next (number bs) λ page rest.
-    Some (record { crc32 = h .crc32; kind = h .kind; len = h .len; «segment_number» = segment; pid = page }, rest)
-
 afterKind : ℕ → MessageKind → List ℕ → Option (MessageHeader × List ℕ)
 afterKind crc kind bs =
     next (number bs) λ len bs. next (number bs) λ segment bs. next (number bs) λ page rest.
@@ -87,7 +78,7 @@ unfolding second
 second-back b bs = ap (λ n. Some (n, bs)) (omega arith)
 
 pub header-back : (h : MessageHeader) (rest : List ℕ) → MessageFits h → readMessageHeader (messageHeader h ++ rest) ≡ Some (h, rest)
-unfolding afterSegment afterLen afterKind afterCrc
+unfolding afterKind afterCrc
 header-back h rest v =
     let a = shortest (h .len) in
     let b = shortest (h .«segment_number») in

@@ -2,8 +2,7 @@
 use mathlib.Core.Logic.{_⊎_, inl, inr, ⊎-elim}
 use mathlib.Core.Path.{_≡_, refl, sym, ap, ap₂, _∙_, subst}
 use mathlib.Core.List.{List, [], _∷_, _++_}
-use mathlib.Core.Bool.{Bool, true, false, cond}
-use Prim.Native.Nat.{ℕ, zero, suc, _+_, _-_, _*_, _/_, _%_, _^_, _≤_, _<_}
+use Prim.Native.Nat.{ℕ, suc, _+_, _-_, _*_, _/_, _^_, _≤_, _<_}
 use native.Mathlib.Omega.{arith}
 use lib.Dec.{leb, ltb, eqb}
 use lib.ListN.{length, set, take, length-drop}
@@ -13,8 +12,8 @@ use native.Mathlib.Numerals.{add-one}
 use Rattle.std.proofs.shelf.Lists.{length-take-le}
 use Rattle.std.proofs.shelf.Tests.{cond-true, cond-false, cond-both, cases-lt, le-leb, lt-leb, ne-eqb, leb-true, leb-false, ltb-true, ltb-false, eqb-false}
 use Rattle.std.specs.declared.option.Option.{Option}
-use Rattle.std.specs.declared.option.Option.the-variants.{Some, None}
-use Rattle.codec.specs.Numbers.{Bytes, little, octets, field, second, third, formed, number, width, shortest, Examples}
+use Rattle.std.specs.declared.option.Option.the-variants.{Some}
+use Rattle.codec.specs.Numbers.{Bytes, octets, field, second, third, formed, number, width, shortest, Examples}
 use Rattle.codec.proofs.Octets.{field-back, length-octets, little-lt, bytes-part, field-read, some-is}
 
 -- the four forms, by the first byte

@@ -2,20 +2,17 @@
 use mathlib.Core.Logic.{⊎-elim}
 use mathlib.Core.Path.{_≡_, refl, sym, ap, ap₂, _∙_, subst}
 use mathlib.Core.List.{List, [], _∷_, _++_}
-use mathlib.Core.Bool.{Bool, true, false, cond}
 use Prim.Native.Nat.{ℕ, zero, suc, _+_, _-_, _*_, _/_, _%_, _^_, _≤_, _<_}
 use native.Mathlib.Omega.{arith}
-use native.Mathlib.Nat.{add-zero, add-suc, zero-add, mul-suc}
-use native.Mathlib.Numerals.{add-one}
+use native.Mathlib.Nat.{mul-suc}
 use lib.Bits.{bitAnd, and-mask}
-use lib.Pow.{pow-add, pow-mono, pow-pos}
+use lib.Pow.{pow-add, pow-mono}
 use lib.ListN.{length, getD, set, take, drop, length-append, length-take}
 use lib.Dec.{leb}
 use lib.Seq.{sets, getD-drop}
 use Rattle.std.proofs.shelf.Lists.{drop-more, drop-all, take-at, drop-at, getD-take, getD-past, length-take-le, take-take}
 use Rattle.std.proofs.shelf.Tests.{cond-true, cond-both, cases-lt, le-leb, leb-true}
-use Rattle.std.specs.declared.option.Option.{Option}
-use Rattle.std.specs.declared.option.Option.the-variants.{Some, None}
+use Rattle.std.specs.declared.option.Option.the-variants.{Some}
 use Rattle.codec.specs.Numbers.{Bytes, little, octets, field}
 
 -- one byte more has eight bits more

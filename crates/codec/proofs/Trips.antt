@@ -9,10 +9,8 @@ use lib.Seq.{sets}
 use Rattle.std.proofs.shelf.Tests.{cond-both, leb-true}
 use Rattle.std.specs.declared.option.Option.{Option}
 use Rattle.std.specs.declared.option.Option.the-variants.{Some}
-use Rattle.std.specs.declared.result.Result.{Result}
-use Rattle.std.specs.declared.result.Result.the-variants.{Ok, Err}
+use Rattle.std.specs.declared.result.Result.the-variants.{Ok}
 use Rattle.codec.specs.Serial.{placed}
-use Rattle.codec.specs.declared.error.CodecError.{CodecError}
 use Rattle.codec.proofs.Octets.{some-is}
 use Rattle.codec.proofs.Writes.{sets-front}
 

@@ -4,7 +4,7 @@
 --   octets k n     the k low bytes of n
 --   number bs      the number at the front of bs by its first byte's form, and the bytes past it
 --   shortest n     the form of n that is written
-use mathlib.Core.Bool.{Bool, cond}
+use mathlib.Core.Bool.{cond}
 use mathlib.Core.List.{List, [], _∷_}
 use mathlib.Core.Path.{_≡_}
 use Prim.Native.Nat.{ℕ, zero, suc, _+_, _-_, _*_, _/_, _%_, _^_, _<_}

@@ -1,7 +1,6 @@
 -- What a reader and a writer reply, whatever the type (docs/FORMAT.md, "The law of written values"). Assumes nothing.
 --   next o f            o was read, and f reads on behind it
 --   placed len at n     n bytes from `at` in a buffer of `len`: where they end, or that it is too short
---   taken r             what a reader gave, by values
 use mathlib.Core.Bool.{cond}
 use mathlib.Core.List.{List}
 use Prim.Native.Nat.{ℕ, _+_}

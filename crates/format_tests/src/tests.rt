@@ -1,5 +1,7 @@
 // Numbers as sled writes and reads them; headers and messages worked out by hand from the format.
+ghost use Rattle.std.specs.declared.option.Option.the-variants.{None};
 use blobs::BlobFiles;
+use blobs::BlobSource;
 use blobs::Extent;
 use blobs::Note;
 use blobs::NoteDebug;
@@ -17,9 +19,17 @@ use codec::Word;
 use codec::WordSerialize;
 use codec::number_len;
 use codec::round_trip;
+use device::BasedBuf;
+use device::BasedBufReadAt;
 use layout::MessageKind;
 use layout::is_segment_size;
 use layout::segment_count;
+use messages::DiskPtr;
+use messages::DiskPtrDebug;
+use messages::DiskPtrPartialEq;
+use messages::LogRead;
+use messages::read_message;
+use refusals::Refusal;
 use std::test::*;
 use tables::Entry;
 use tables::SortedTable;
@@ -212,4 +222,60 @@ fn bank_limits() -> Result<(), Fail> {
     check(files.add(&mut extents, 5, &[0; 11]).is_err())?;
     check(files.add(&mut extents, 5, &BLOB).is_ok())?;
     check(files.add(&mut extents, 5, &[]).is_ok())
+}
+
+#[derive(Drop)]
+struct NoBlobs;
+
+impl BlobSource for NoBlobs as NoBlobsSource {
+    ghost notes = { λ _ _. None };
+
+    fn blob(&self, _pointer: u64) -> Option<Note> {
+        None
+    }
+}
+
+// Reads in a segment that stands at place 256.
+fn read_at(
+    segment: &[u8],
+    body: &mut [u8],
+    size: u64,
+    place: u64,
+    lsn: u64,
+) -> Result<LogRead, Refusal> {
+    let view = BasedBuf {
+        buf: segment,
+        offset: 256,
+    };
+    read_message(&view, &NoBlobs, body, size, place, lsn)
+}
+
+// The node above at LSN 20 of a segment with LSN 0.
+#[test]
+fn message_reading() -> Result<(), Fail> {
+    let mut segment = [0u8; 256];
+    segment[20..38].copy_from_slice(&NODE);
+    let mut body = [0u8; 256];
+    let Ok(LogRead::Record(node)) = read_at(&segment, &mut body, 256, 276, 20) else {
+        return Err(Fail::new("no record"));
+    };
+    check_eq(node.pid, 3)?;
+    check_eq(node.len, 18)?;
+    check_eq(node.ptr, DiskPtr::Inline(276))?;
+    check(matches!(
+        read_at(&segment, &mut body, 256, 276, 276),
+        Ok(LogRead::Corrupted)
+    ))?;
+    check(matches!(
+        read_at(&segment, &mut body, 256, 275, 19),
+        Ok(LogRead::Short)
+    ))?;
+    check(matches!(
+        read_at(&segment, &mut body, 300, 276, 20),
+        Err(Refusal::Size)
+    ))?;
+    check(matches!(
+        read_at(&segment, &mut [0; 255], 256, 276, 20),
+        Err(Refusal::Buffer)
+    ))
 }

@@ -5,7 +5,7 @@ use Prim.Native.Nat.{ℕ}
 use Rattle.std.specs.declared.option.Option.{Option}
 use Rattle.std.specs.declared.option.Option.the-variants.{Some, None}
 use Rattle.codec.specs.Fields.{below}
-use Rattle.codec.specs.Segments.{segmentHeader, readSegmentHeader, checks}
+use Rattle.codec.specs.Segments.{segmentHeader, checks}
 use Rattle.codec.specs.declared.segment.SegmentHeader.{SegmentHeader}
 use Rattle.inspect.specs.declared.verdict.Verdict.{Verdict}
 use Rattle.inspect.specs.declared.verdict.Verdict.the-variants.{Used, BelowZero, NoHeader}

@@ -1,6 +1,7 @@
 // The sizes that segments may have, and how many a log has.
-ghost use mathlib.Core.Bool.{cond};
+ghost use mathlib.Core.Bool.{true, cond};
 ghost use mathlib.Core.Path.{_≡_};
+ghost use Prim.Native.Nat.{ℕ, _^_};
 ghost use Rattle.std.specs.declared.option.Option.the-variants.{Some, None};
 ghost use Rattle.layout.specs.Sizes.{isSegmentSize, counted};
 
@@ -30,7 +31,8 @@ pub fn segment_count(len: u64, size: u64) -> Option<u64>
 
 // A power of two from 256 to 1,048,576.
 pub fn is_segment_size(size: u64) -> bool
-    ensures { λ r. ⌜ r ≡ isSegmentSize size ⌝ }
+    ensures value { λ r. ⌜ r ≡ isSegmentSize size ⌝ }
+    ensures power { λ r. ⌜ (r ≡ true → (j : ℕ) × (size ≡ 2 ^ j)) ⌝ }
 {
     size >= MIN_SEGMENT_SIZE && size <= MAX_SEGMENT_SIZE && size.is_power_of_two()
 }

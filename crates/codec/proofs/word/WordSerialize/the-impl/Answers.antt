@@ -1,6 +1,4 @@
 use mathlib.Core.Path.{ap}
-use mathlib.Core.List.{List}
-use Prim.Native.Nat.{ℕ}
 use Rattle.std.specs.declared.option.Option.the-variants.{Some}
 use Rattle.codec.specs.Serial.{next}
 use Rattle.codec.proofs.Octets.{field-back}
