@@ -1,4 +1,6 @@
 // Blobs: what a message points to that stands in a file of its own.
+#![tactic(auto)]
+
 mod bank;
 mod blob_files;
 mod blob_io;

@@ -1,4 +1,6 @@
 // CRC-32, the 32-bit frame check sequence of ITU-T V.42: of a message, and carried on from part to part.
+#![tactic(auto)]
+
 mod slicing;
 mod tables;
 #[cfg(test)]

@@ -1,4 +1,6 @@
 // Numbers, headers and messages of a log as bytes.
+#![tactic(auto)]
+
 mod error;
 mod little;
 mod message;

@@ -1,4 +1,6 @@
 // A device that lays writable blocks over bytes that are only read.
+#![tactic(auto)]
+
 mod block_table;
 mod blocks;
 mod cover_device;

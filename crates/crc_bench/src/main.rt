@@ -1,4 +1,6 @@
 // Measures the speed of the checksum over a file: crc_bench FILE ROUNDS.
+#![tactic(auto)]
+
 use std::time::Instant;
 use std::{env, fs};
 

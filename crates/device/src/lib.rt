@@ -1,4 +1,6 @@
 // Devices: bytes that are read at a place, and written block by block.
+#![tactic(auto)]
+
 mod based_buf;
 mod block_device;
 mod error;

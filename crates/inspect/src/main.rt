@@ -1,4 +1,6 @@
 // Lists the segments of a log file, and the blobs of a folder: inspect SIZE FILE [BLOBS].
+#![tactic(auto)]
+
 mod folder;
 mod verdict;
 

@@ -1,4 +1,6 @@
 // Kinds of messages and sizes of segments: what the format fixes besides its bytes.
+#![tactic(auto)]
+
 mod kind;
 mod segment_size;
 

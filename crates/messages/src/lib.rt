@@ -1,4 +1,6 @@
 // Reading one message of a log through any view of its bytes.
+#![tactic(auto)]
+
 mod disk_pointer;
 mod log_read;
 mod message_read;

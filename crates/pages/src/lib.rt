@@ -1,4 +1,6 @@
 // Pages, their tables, and the snapshots that hold them.
+#![tactic(auto)]
+
 mod coords;
 mod formed;
 mod page_state;

@@ -1,4 +1,6 @@
 // Recovery of a log: from a device, a blob source and a snapshot to a new snapshot.
+#![tactic(auto)]
+
 mod first_walk;
 mod iterator;
 mod tail;

@@ -1,4 +1,6 @@
 // Which segments of a log are used, in the order of their LSNs.
+#![tactic(auto)]
+
 mod header;
 mod segments;
 

@@ -1,4 +1,6 @@
 // A finite map by key over a lent slice of entries: no call allocates, and every call says what the slice holds.
+#![tactic(auto)]
+
 mod edits;
 mod entry;
 mod fault;

@@ -1,4 +1,6 @@
 // What walks over a log come to, what a recovery makes of it, and what a message does to a walk.
+#![tactic(auto)]
+
 mod turn;
 
 pub use turn::{Turn, past, turn_of};
