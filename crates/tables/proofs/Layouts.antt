@@ -1,5 +1,5 @@
 -- A slice that holds a map: what its first entries are, and what the edits of a table leave. Assumes nothing.
-use Rattle.std.proofs.Common.{◌≡◌, ℕ, ◌+◌, ◌-◌, ◌<◌, ◌≤◌, true, List, [], ◌∷◌, ◌++◌, length, take, drop, set, replicate, is_some, Some, None, Ok, Err, Option, sym, refl, ap, ◌∙◌, ap₂, arith, length-append, length-drop, length-set, Bor}
+use Rattle.std.proofs.Common.{◌≡◌, ℕ, ◌+◌, ◌-◌, ◌<◌, ◌≤◌, true, List, [], ◌∷◌, ◌++◌, length, take, drop, set, replicate, is_some, Some, None, Ok, Err, Option, sym, refl, ap, ◌∙◌, ap₂, arith, length-append, length-drop, length-set, MutBor}
 use mathlib.Core.Logic.{∥∥₁_elim}
 use base.Stored.{Coded, Coded-set, coded_ℕ, coded×, coded_list, coded_via}
 use lib.ListN.{length-replicate}
@@ -68,7 +68,7 @@ module _ {V : Type 0} where
     pub place-within : (k at : ℕ) → Located k (contents t) (Err at) → at ≤ t.len
     place-within k at l = omega (arith, l.0, rank_most k (contents t), used)
 
-    pub room_left : (r : Bor (List (Entry V))) → r ≡ t.entries → (t.len ≡ capacity t → ⊥) → t.len < length r.now
+    pub room_left : (r : MutBor (List (Entry V))) → r ≡ t.entries → (t.len ≡ capacity t → ⊥) → t.len < length r.now
     room_left r took left = omega (arith, left, t.within, ap (λ y. length y.now) took)
 
     abbrev spare : Entry V
@@ -95,7 +95,7 @@ module _ {V : Type 0} where
           (ap (λ l. set l at x) shown ∙ set-append_left es (replicate (capacity t - length es) spare) at x l.0 ∙ ap₂ (λ l k. l ++ replicate (capacity t - k) spare) new (sym long))
 
       -- the slice is taken out as r, and comes back with ys in it
-      module _ (r : Bor (List (Entry V))) (took : r ≡ t.entries) (ys : List (Entry V)) where
+      module _ (r : MutBor (List (Entry V))) (took : r ≡ t.entries) (ys : List (Entry V)) where
         pub holds_inserted : (x : Entry V) (at : ℕ) → Located x.key (contents t) (Err at) → (t.len ≡ capacity t → ⊥) → ys ≡ insert (take t.len r.now) at x ++ drop (t.len + 1) r.now
             → Holds (capacity t) t.blank (t.len + 1) ys (put x (contents t))
         unfolding laid

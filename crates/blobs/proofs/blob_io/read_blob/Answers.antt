@@ -6,9 +6,9 @@ pub returns-in-default : goal.returns-in-default
 unfolding note_of
 returns-in-default c = search rules
 
-pub returns-then-is-empty : goal.returns-then-is-empty
+pub returns-then-is_empty : goal.returns-then-is_empty
 unfolding note_of
-returns-then-is-empty c = search rules
+returns-then-is_empty c = search rules
 
 pub returns : goal.returns
 unfolding note_of

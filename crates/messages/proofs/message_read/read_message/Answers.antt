@@ -10,9 +10,9 @@ returns g c =
     let lsn = c.args.lsn in
     let small : lsn / size < 2 ^ 64 = search rules in
     record {
-      reply = c.read-checked.ensures.reply;
-      body = c.read-checked.ensures.body;
+      reply = c.read_checked.ensures.reply;
+      body = c.read_checked.ensures.body;
       written = λ kind page content z room s.
-          c.read-checked.ensures.reply ∙ cond-true _ _ _ z ∙ cond-true _ _ _ (le-leb size (length c.args.body.now) room)
+          c.read_checked.ensures.reply ∙ cond-true _ _ _ z ∙ cond-true _ _ _ (le-leb size (length c.args.body.now) room)
           ∙ ap (understood (g.B.BlobSource.notes c.args.source.now) c.args.place lsn) (message_round size (lsn / size) (g.R.ReadAt.first c.args.view.now) c.args.place page (g.R.ReadAt.bytes c.args.view.now) content kind z small s);
     }

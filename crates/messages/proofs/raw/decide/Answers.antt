@@ -2,9 +2,9 @@ use Rattle.std.proofs.Common.{rules}
 use Rattle.messages.specs.Raw.{decided}
 use Rattle.messages.proofs.raw.decide.Goals as goal
 
-pub returns-then-h-calculate-message-crc32 : goal.returns-then-h-calculate-message-crc32
+pub returns-then-h-calculate_message_crc32 : goal.returns-then-h-calculate_message_crc32
 unfolding decided
-returns-then-h-calculate-message-crc32 c = search rules
+returns-then-h-calculate_message_crc32 c = search rules
 
 pub returns-then-h-number : goal.returns-then-h-number
 unfolding decided

@@ -10,10 +10,10 @@ returns-in-Ok g c =
     let body = c.args.body.now in
     let a = c.in-Ok.ensures in
     let k : length (take (h.len - 0) body) ≡ h.len = simp length-take (omega (arith, c.requires.room)) in
-    let l : length c.pread-exact.new.dst ≡ h.len = c.pread-exact.auto.dst ∙ k in
+    let l : length c.pread_exact.new.dst ≡ h.len = c.pread_exact.auto.dst ∙ k in
     record {
-      value = long_read h c.args.number first c.args.from bytes c.args.header.now _ c.in-Ok.field-0 c.pread-exact.new.dst body c.decide-raw.result k l a.reply a.after c.decide-raw.ensures;
-      body = long-cleared h c.args.number first c.args.from bytes c.args.header.now _ c.in-Ok.field-0 c.fill.new.self c.pread-exact.new.dst body k l a.reply (c.fill.ensures.after (λ y e. e));
+      value = long_read h c.args.number first c.args.from bytes c.args.header.now _ c.in-Ok.field-0 c.pread_exact.new.dst body c.decide-raw.result k l a.reply a.after c.decide-raw.ensures;
+      body = long-cleared h c.args.number first c.args.from bytes c.args.header.now _ c.in-Ok.field-0 c.fill.new.self c.pread_exact.new.dst body k l a.reply (c.fill.ensures.after (λ y e. e));
     }
 
 pub returns-in-Err : goal.returns-in-Err
@@ -26,5 +26,5 @@ returns-in-Err g c =
     let k : length (take (h.len - 0) body) ≡ h.len = simp length-take (omega (arith, c.requires.room)) in
     record {
       value = long_short h c.args.number first c.args.from bytes c.args.header.now _ c.in-Err.field-0 k a.reply;
-      body = long_kept h c.args.number first c.args.from bytes c.args.header.now _ c.in-Err.field-0 c.pread-exact.new.dst body k a.reply a.after;
+      body = long_kept h c.args.number first c.args.from bytes c.args.header.now _ c.in-Err.field-0 c.pread_exact.new.dst body k a.reply a.after;
     }

@@ -9,7 +9,7 @@ returns c =
     let os = contents c.args.order.now in
     let t = c.follow.result in
     record {
-      tail = ap (tail_from c.args.size c.args.start) c.first-from-from.ensures.since ∙ c.follow.ensures.tail
+      tail = ap (tail_from c.args.size c.args.start) c.first_from-from.ensures.since ∙ c.follow.ensures.tail
           ∙ ap (λ (n : ℕ). record { segments = drop n (take t.until os); absent = t.absent; gap = ltb t.until (length os) }) (sym c.follow.ensures.from);
       until = c.follow.ensures.until;
     }

@@ -6,8 +6,8 @@ use Rattle.recovery.proofs.tail.follow.Goals as goal
 pub loop-until-init : goal.loop-until-init
 loop-until-init c = following_none c.args.size c.args.start (contents c.args.order.now) c.args.from c.requires.within
 
-pub overflow-add-absent : goal.overflow-add-absent
-overflow-add-absent c =
+pub overflow_add-absent : goal.overflow_add-absent
+overflow_add-absent c =
     record { fits = omega (arith, tail-fits c.args.size (contents c.args.order.now) c.loop-until.until c.in-Some.s c.requires.small c.in-Some.ensures, c.if-s-absent.false) }
 
 pub loop-until-preserved : goal.loop-until-preserved

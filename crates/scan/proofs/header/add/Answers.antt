@@ -3,17 +3,17 @@ use Rattle.tables.specs.Views.{contents}
 use Rattle.scan.proofs.Adds.{add-odd, add_same, add-new}
 use Rattle.scan.proofs.header.add.Goals as goal
 
-pub returns-then-is-odd : goal.returns-then-is-odd
-returns-then-is-odd c =
-    let o = add-odd c.args.size c.args.place c.args.lsn c.args.mark (contents c.args.order.now) (sym c.if-is-odd.ensures) in
+pub returns-then-is_odd : goal.returns-then-is_odd
+returns-then-is_odd c =
+    let o = add-odd c.args.size c.args.place c.args.lsn c.args.mark (contents c.args.order.now) (sym c.if-is_odd.ensures) in
     record { reply = o.reply; contents = o.contents; same = record { lender = refl; size = refl; blank = refl } }
 
-pub returns-then-is-some : goal.returns-then-is-some
-returns-then-is-some c =
-    let o = add_same c.args.size c.args.place c.args.lsn c.args.mark (contents c.args.order.now) (sym c.if-is-odd.ensures) (ap is_some (sym c.find.ensures) ∙ sym c.if-is-some.ensures) in
+pub returns-then-is_some : goal.returns-then-is_some
+returns-then-is_some c =
+    let o = add_same c.args.size c.args.place c.args.lsn c.args.mark (contents c.args.order.now) (sym c.if-is_odd.ensures) (ap is_some (sym c.find.ensures) ∙ sym c.if-is_some.ensures) in
     record { reply = o.reply; contents = o.contents; same = record { lender = refl; size = refl; blank = refl } }
 
 pub returns-in-Ok : goal.returns-in-Ok
 returns-in-Ok c =
-    let o = add-new c.args.size c.args.place c.args.lsn c.args.mark (contents c.args.order.now) (sym c.if-is-odd.ensures) (ap is_some (sym c.find.ensures) ∙ sym c.if-is-some.ensures) (contents c.insert.new.self) c.in-Ok.ensures.contents in
+    let o = add-new c.args.size c.args.place c.args.lsn c.args.mark (contents c.args.order.now) (sym c.if-is_odd.ensures) (ap is_some (sym c.find.ensures) ∙ sym c.if-is_some.ensures) (contents c.insert.new.self) c.in-Ok.ensures.contents in
     record { reply = o.reply; contents = o.contents; same = c.in-Ok.ensures.same }

@@ -11,25 +11,25 @@ returns-in-default c = unread c.args.low c.args.bytes.now c.requires c.in-defaul
 pub returns-then-not-ok : goal.returns-then-not-ok
 returns-then-not-ok c =
     unchecked c.args.low c.args.bytes.now c.requires
-    (sym (c.if-not-ok.ensures.bytes c.args.bytes.now c.in-Ok.field-0-1.now (λ i. (c.type-inv.bytes i).fits) (sym c.in-Ok.ensures)))
+    (sym (c.if-not-ok.ensures.bytes c.args.bytes.now c.in-Ok.field-0-1.now (λ i. (c.type_inv.bytes i).fits) (sym c.in-Ok.ensures)))
 
-pub returns-in-err-lsn : goal.returns-in-err-lsn
-returns-in-err-lsn c =
+pub returns-in_err-lsn : goal.returns-in_err-lsn
+returns-in_err-lsn c =
     let h = read_is c.args.low c.args.bytes.now c.requires c.in-Ok.header c.in-Ok.field-0-1.now c.in-Ok.ensures in
-    c.from-residual.ensures ∙ below-zero c.args.low c.args.bytes.now c.requires (ap (λ (x : SegmentHeader). below x.lsn.bits) (sym h) ∙ lsn_none c.in-Ok.header.lsn.bits c.lsn.result c.lsn.ensures c.in-err-lsn.was)
+    c.from_residual.ensures ∙ below-zero c.args.low c.args.bytes.now c.requires (ap (λ (x : SegmentHeader). below x.lsn.bits) (sym h) ∙ lsn_none c.in-Ok.header.lsn.bits c.lsn.result c.lsn.ensures c.in_err-lsn.was)
 
 pub returns-then-lsn-low : goal.returns-then-lsn-low
 returns-then-lsn-low c =
     let h = read_is c.args.low c.args.bytes.now c.requires c.in-Ok.header c.in-Ok.field-0-1.now c.in-Ok.ensures in
-    let s = lsn_some c.in-Ok.header.lsn.bits c.in-ok-lsn.lsn c.lsn.result c.lsn.ensures c.in-ok-lsn.was in
-    below_low c.args.low c.args.bytes.now c.requires c.in-ok-lsn.lsn (s.1 ∙ ap (λ (x : SegmentHeader). x.lsn.bits) h) c.if-lsn-low.true
+    let s = lsn_some c.in-Ok.header.lsn.bits c.in_ok-lsn.lsn c.lsn.result c.lsn.ensures c.in_ok-lsn.was in
+    below_low c.args.low c.args.bytes.now c.requires c.in_ok-lsn.lsn (s.1 ∙ ap (λ (x : SegmentHeader). x.lsn.bits) h) c.if-lsn-low.true
 
 pub returns : goal.returns
 returns c =
     let h = read_is c.args.low c.args.bytes.now c.requires c.in-Ok.header c.in-Ok.field-0-1.now c.in-Ok.ensures in
-    let s = lsn_some c.in-Ok.header.lsn.bits c.in-ok-lsn.lsn c.lsn.result c.lsn.ensures c.in-ok-lsn.was in
-    in_use c.args.low c.args.bytes.now c.requires c.in-ok-lsn.lsn c.weigh.result
-    (sym (c.if-not-ok.ensures.bytes c.args.bytes.now c.in-Ok.field-0-1.now (λ i. (c.type-inv.bytes i).fits) (sym c.in-Ok.ensures)))
+    let s = lsn_some c.in-Ok.header.lsn.bits c.in_ok-lsn.lsn c.lsn.result c.lsn.ensures c.in_ok-lsn.was in
+    in_use c.args.low c.args.bytes.now c.requires c.in_ok-lsn.lsn c.weigh.result
+    (sym (c.if-not-ok.ensures.bytes c.args.bytes.now c.in-Ok.field-0-1.now (λ i. (c.type_inv.bytes i).fits) (sym c.in-Ok.ensures)))
     (ap (λ (x : SegmentHeader). below x.lsn.bits) (sym h) ∙ s.0)
     (s.1 ∙ ap (λ (x : SegmentHeader). x.lsn.bits) h)
     (λ l. omega (arith, c.if-lsn-low.false))

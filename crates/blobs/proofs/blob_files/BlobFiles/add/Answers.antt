@@ -7,9 +7,9 @@ use Rattle.blobs.specs.Adding.{taken}
 use Rattle.blobs.proofs.Adds.{holds_more}
 use Rattle.blobs.proofs.blob_files.BlobFiles.add.Goals as goal
 
-pub returns-then-not-has-room : goal.returns-then-not-has-room
-returns-then-not-has-room c = record {
-  reply = sym (cond-false _ _ _ (sym c.if-not-has-room.ensures));
+pub returns-then-not-has_room : goal.returns-then-not-has_room
+returns-then-not-has_room c = record {
+  reply = sym (cond-false _ _ _ (sym c.if-not-has_room.ensures));
   bytes = refl;
   used = refl;
   extents = refl;
@@ -22,11 +22,11 @@ pub returns : goal.returns
 returns c =
     let files = c.args.self.now in
     let file = c.args.file.now in
-    let w = c.in-ok-insert.ensures in
-    let room : files.used + length file ≤ length files.bytes.now = leb-true _ _ (sym c.if-not-has-room.ensures) in
-    let bytes = put_part files.bytes.now c.copy-from-slice.new.self file files.used c.copy-from-slice.ensures.after room in
+    let w = c.in_ok-insert.ensures in
+    let room : files.used + length file ≤ length files.bytes.now = leb-true _ _ (sym c.if-not-has_room.ensures) in
+    let bytes = put_part files.bytes.now c.copy_from_slice.new.self file files.used c.copy_from_slice.ensures.after room in
     record {
-      reply = ap taken w.reply ∙ sym (cond-true _ _ _ (sym c.if-not-has-room.ensures));
+      reply = ap taken w.reply ∙ sym (cond-true _ _ _ (sym c.if-not-has_room.ensures));
       bytes = bytes;
       used = refl;
       extents = w.contents;

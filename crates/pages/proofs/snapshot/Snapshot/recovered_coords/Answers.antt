@@ -4,9 +4,9 @@ use Rattle.pages.specs.Snapshots.{snap_of, coords}
 use Rattle.pages.proofs.Worked.{examples}
 use Rattle.pages.proofs.snapshot.Snapshot.recovered_coords.Goals as goal
 
-pub returns-then-not-is-segment-size : goal.returns-then-not-is-segment-size
+pub returns-then-not-is_segment_size : goal.returns-then-not-is_segment_size
 unfolding coords_reply
-returns-then-not-is-segment-size c = record { reply = search rules; examples = examples }
+returns-then-not-is_segment_size c = record { reply = search rules; examples = examples }
 
 pub returns-in-Some : goal.returns-in-Some
 unfolding coords_reply coords snap_of

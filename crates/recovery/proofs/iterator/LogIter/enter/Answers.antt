@@ -16,8 +16,8 @@ pub returns-then-past : goal.returns-then-past
 returns-then-past g c =
     e-past (g.B.BlobSource.notes c.args.self.now.source.now) (g.R.ReadAt.bytes c.args.self.now.view.now) (contents c.args.self.now.order.now) c.args.segment.now c.args.room c.args.self.now c.requires.sane c.requires.none c.if-self.false c.in-Some.s (sym c.in-Some.ensures) (sym c.if-past.ensures)
 
-pub overflow-add-self-2 : goal.overflow-add-self-2
-overflow-add-self-2 g c =
+pub overflow_add-self-2 : goal.overflow_add-self-2
+overflow_add-self-2 g c =
     let s = s-small (g.B.BlobSource.notes c.args.self.now.source.now) (g.R.ReadAt.bytes c.args.self.now.view.now) (contents c.args.self.now.order.now) c.args.segment.now c.args.room c.args.self.now c.requires.sane c.requires.none c.if-self.false c.in-Some.s (sym c.in-Some.ensures) in
     record { fits = omega (arith, s.lsn, (sized c.args.self.now.size c.requires.sane.sized).low) }
 

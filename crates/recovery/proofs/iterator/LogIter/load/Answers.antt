@@ -11,8 +11,8 @@ returns-in-Ok g c =
     let k : length (take (w.size - 0) segment) ≡ w.size = length-take (w.size - 0) segment ∙ omega (arith, c.requires.long) in
     let a = c.in-Ok.ensures in
     record {
-      bytes = loaded first c.args.place w.size c.in-Ok.n (length (take (w.size - 0) segment)) bytes (take (w.size - 0) segment) c.pread-exact-or-eof.new.dst (drop (w.size - 0) segment) c.requires.base k refl a.reply a.after;
-      within = omega (arith, loaded-within first c.args.place c.in-Ok.n (length (take (w.size - 0) segment)) bytes a.reply, c.pread-exact-or-eof.auto.dst, length-append c.pread-exact-or-eof.new.dst (drop (w.size - 0) segment));
+      bytes = loaded first c.args.place w.size c.in-Ok.n (length (take (w.size - 0) segment)) bytes (take (w.size - 0) segment) c.pread_exact_or_eof.new.dst (drop (w.size - 0) segment) c.requires.base k refl a.reply a.after;
+      within = omega (arith, loaded-within first c.args.place c.in-Ok.n (length (take (w.size - 0) segment)) bytes a.reply, c.pread_exact_or_eof.auto.dst, length-append c.pread_exact_or_eof.new.dst (drop (w.size - 0) segment));
     }
 
 pub returns-in-Err : goal.returns-in-Err

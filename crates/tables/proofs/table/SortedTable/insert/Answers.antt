@@ -4,10 +4,10 @@ use Rattle.tables.proofs.Layouts.{used, place-within, room_left, shown, same_kep
 use Rattle.tables.proofs.Replies.{reply_found, reply_room, reply-full}
 use Rattle.tables.proofs.table.SortedTable.insert.Goals as goal
 
-pub invariant-of-self : goal.invariant-of-self
-invariant-of-self g c =
+pub invariant_of-self : goal.invariant_of-self
+invariant_of-self g c =
     let h = holds_replaced c.args.self.now g.row.V.coded (record { key = c.args.key; value = c.args.value }) c.in-Ok.at c.in-Ok.ensures in
-    (h.within, (h.ordered, (∣ h.shown ∣₁, tt)))
+    record { within = h.within; ordered = h.ordered; clean = ∣ h.shown ∣₁ }
 
 pub returns-in-Ok : goal.returns-in-Ok
 returns-in-Ok g c =
@@ -25,29 +25,29 @@ returns-then-n-self g c =
       same = same_kept t;
     }
 
-pub insert-among-requires : goal.insert-among-requires
-insert-among-requires g c =
+pub insert_among-requires : goal.insert_among-requires
+insert_among-requires g c =
     let t = c.args.self.now in
     record {
       order = place-within t c.args.key c.in-Err.at c.in-Err.ensures;
       room = room_left t c.take-entries.result c.take-entries.ensures.value c.if-n-self.false;
     }
 
-pub invariant-of-self-in-Err : goal.invariant-of-self-in-Err
-invariant-of-self-in-Err g c =
+pub invariant_of-self-in-Err : goal.invariant_of-self-in-Err
+invariant_of-self-in-Err g c =
     let t = c.args.self.now in
     let took = c.take-entries.ensures.value in
-    let h = holds_inserted t g.row.V.coded c.take-entries.result took c.insert-among.new.items (record { key = c.args.key; value = c.args.value }) c.in-Err.at c.in-Err.ensures c.if-n-self.false c.insert-among.ensures in
-    (h.within, (h.ordered, (∣ h.shown ∣₁, tt)))
+    let h = holds_inserted t g.row.V.coded c.take-entries.result took c.insert_among.new.items (record { key = c.args.key; value = c.args.value }) c.in-Err.at c.in-Err.ensures c.if-n-self.false c.insert_among.ensures in
+    record { within = h.within; ordered = h.ordered; clean = ∣ h.shown ∣₁ }
 
 pub returns-else-n-self : goal.returns-else-n-self
 returns-else-n-self g c =
     let t = c.args.self.now in
     let took = c.take-entries.ensures.value in
-    let h = holds_inserted t g.row.V.coded c.take-entries.result took c.insert-among.new.items (record { key = c.args.key; value = c.args.value }) c.in-Err.at c.in-Err.ensures c.if-n-self.false c.insert-among.ensures in
+    let h = holds_inserted t g.row.V.coded c.take-entries.result took c.insert_among.new.items (record { key = c.args.key; value = c.args.value }) c.in-Err.at c.in-Err.ensures c.if-n-self.false c.insert_among.ensures in
     record {
       reply = reply_room (capacity t) c.args.key (contents t) (omega (arith, used t, t.within, c.if-n-self.false));
       contents = h.contents;
       shown = h.shown;
-      same = record { lender = ap (λ r. r.name) took; size = h.long; blank = refl {a = t.blank} };
+      same = record { lender = ap (λ r. r.ghost_name) took; size = h.long; blank = refl {a = t.blank} };
     }
