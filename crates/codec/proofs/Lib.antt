@@ -1,1 +1,6 @@
+pub mod Bodies
+pub mod Forms
+pub mod Headers
+pub mod Octets
 pub mod Trips
+pub mod Writes

@@ -1,10 +1,10 @@
 -- What is written at the front of a buffer is read from there. Assumes nothing.
 use Rattle.std.proofs.Common.{◌≡◌, ℕ, ◌+◌, ◌≤◌, leb, List, ◌++◌, length, drop, Some, Ok, Option, ap, ◌∙◌, arith}
-use lib.Seq.{sets}
+use Rattle.std.proofs.lemmas.List.Edits.{sets}
 use Rattle.std.proofs.lemmas.Bool.{cond_both, leb-true}
 use Rattle.codec.specs.Serial.{placed}
-use Rattle.codec.specs.Octets.{some_is}
-use Rattle.codec.specs.Writes.{sets_front}
+use Rattle.codec.proofs.Octets.{some_is}
+use Rattle.codec.proofs.Writes.{sets_front}
 
 -- an accepted write had room
 pub placed_room : (len n e : ℕ) → Ok e ≡ placed len 0 n → n ≤ len

@@ -1,10 +1,6 @@
 pub mod Fields
+pub mod Laws
 pub mod Messages
 pub mod Numbers
 pub mod Segments
 pub mod Serial
-pub mod Bodies
-pub mod Forms
-pub mod Octets
-pub mod Writes
-pub mod Headers

@@ -2,7 +2,7 @@
 ghost use Rattle.std.specs.Prelude.{◌≡◌, ◌+◌, ◌≤◌, length};
 ghost use Rattle.std.proofs.lemmas.List.Edits.{sets};
 ghost use Rattle.codec.specs.Messages.{message_header, MessageFits, read_message_header};
-ghost use Rattle.codec.specs.Bodies.{header_back};
+ghost use Rattle.codec.specs.Laws.{header_back};
 
 use crate::little::{has_room, put_octets};
 use crate::number::{form_len, get_byte, get_number, put_number};

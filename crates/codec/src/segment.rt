@@ -3,7 +3,7 @@ ghost use Rattle.std.specs.Prelude.{◌≡◌, ℕ, true, false, List, replicate
 ghost use Rattle.checksum.specs.Crc.{crc32};
 ghost use Rattle.codec.specs.Numbers.{Bytes};
 ghost use Rattle.codec.specs.Segments.{fields, segment_header, SegmentFits, read_segment_header, segment_of, checks};
-ghost use Rattle.codec.specs.Headers.{segment_back};
+ghost use Rattle.codec.specs.Laws.{segment_back};
 
 use crate::little::{get_field, has_room, put_octets};
 use crate::{CodecError, Serialize, Word};

@@ -1,15 +1,12 @@
 // What can be written as bytes and read back.
 ghost use Rattle.std.specs.Prelude.{◌≡◌, ℕ, ◌^◌, ◌<◌, List, [], ◌∷◌, ◌++◌, length, is_ok, if◌then◌else◌, Some, Ok, Err, Option, nat_le};
-ghost use Rattle.std.proofs.Math.Path.{ap};
 ghost use Rattle.std.proofs.lemmas.List.Edits.{sets};
 ghost use Rattle.std.specs.Option.{option_map};
 ghost use Rattle.std.specs.Result.{result_ok};
 ghost use Rattle.codec.specs.Numbers.{octets, field, second, number, shortest};
 ghost use Rattle.codec.specs.Serial.{placed};
 ghost use Rattle.codec.specs.declared.error.CodecError.TheVariants.{TooShort};
-ghost use Rattle.std.proofs.Common.{arith};
-ghost use Rattle.codec.specs.Octets.{field_back};
-ghost use Rattle.codec.specs.Forms.{number_back};
+ghost use Rattle.codec.specs.Laws.{second_back, field_back, number_back};
 
 use crate::CodecError;
 use crate::little::{get_field, has_room, put_octets};
@@ -49,7 +46,7 @@ impl Serialize for u8 {
 
     ghost reads = { second 0 };
 
-    ghost back = { unfold second in λ x rest v. ap (λ n. Some (n, rest)) (omega arith) };
+    ghost back = { λ x rest v. second_back x rest };
 
     fn serialized_size(&self) -> usize {
         1

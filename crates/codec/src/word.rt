@@ -4,7 +4,7 @@ ghost use Rattle.std.proofs.Common.{ap, to_z};
 ghost use Rattle.std.specs.Int.{w64};
 ghost use Rattle.codec.specs.Fields.{below, eight, read_word};
 ghost use Rattle.codec.specs.Serial.{next};
-ghost use Rattle.codec.specs.Octets.{field_back};
+ghost use Rattle.codec.specs.Laws.{field_back};
 
 use crate::little::{get_field, has_room, put_octets};
 use crate::{CodecError, Serialize};

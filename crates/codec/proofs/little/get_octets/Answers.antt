@@ -1,21 +1,21 @@
 use Rattle.std.proofs.Common.{◌≡◌, ◌-◌, ◌*◌, ◌^◌, ◌<◌, get_or, take, drop, ap, ◌∙◌, subst, arith, pow_pos}
 use Rattle.codec.specs.Numbers.{little}
-use Rattle.codec.specs.Octets.{down_none, down_bound, down_fits, down_more}
+use Rattle.codec.proofs.Octets.{down_none, down_bound, down_fits, down_more}
 use Rattle.codec.proofs.little.get_octets.Goals as goal
 use Rattle.codec.proofs.little.get_octets.Goals.{In-loop-i}
 
 byte : (c : In-loop-i) → get_or c.args.buf.now (c.loop-i.i - 1) 0 < 256
-byte c = (c.type-inv.buf (c.loop-i.i - 1)).fits
+byte c = (c.type_inv.buf (c.loop-i.i - 1)).fits
 
 pub loop-i-init : goal.loop-i-init
 loop-i-init c = (down_none c.args.k c.args.buf.now, pow_pos _)
 
-pub overflow-mul-v : goal.overflow-mul-v
-overflow-mul-v c = record { fits = omega (arith, down_fits c.args.k c.loop-i.i c.loop-i.v 0 c.loop-i-test.true c.loop-i.auto.i c.requires.few c.loop-i.invariant.1 (omega arith)) }
+pub overflow_mul-v : goal.overflow_mul-v
+overflow_mul-v c = record { fits = omega (arith, down_fits c.args.k c.loop-i.i c.loop-i.v 0 c.loop-i-test.true c.loop-i.auto.i c.requires.few c.loop-i.invariant.1 (omega arith)) }
 
-pub overflow-add-v : goal.overflow-add-v
-overflow-add-v c =
-    record { fits = down_fits c.args.k c.loop-i.i c.loop-i.v c.from.result c.loop-i-test.true c.loop-i.auto.i c.requires.few c.loop-i.invariant.1 (omega (arith, c.from.ensures, byte (goal.at.overflow-add-v c).In-loop-i)) }
+pub overflow_add-v : goal.overflow_add-v
+overflow_add-v c =
+    record { fits = down_fits c.args.k c.loop-i.i c.loop-i.v c.from.result c.loop-i-test.true c.loop-i.auto.i c.requires.few c.loop-i.invariant.1 (omega (arith, c.from.ensures, byte (goal.at.overflow_add-v c).In-loop-i)) }
 
 pub loop-i-preserved : goal.loop-i-preserved
 loop-i-preserved c = (

@@ -1,5 +1,5 @@
 use Rattle.std.proofs.Common.{rules}
-use Rattle.codec.specs.Writes.{put_part}
+use Rattle.codec.proofs.Writes.{put_part}
 use Rattle.codec.proofs.little.put_bytes.Goals as goal
 
 pub returns : goal.returns

@@ -1,5 +1,5 @@
 use Rattle.std.proofs.Common.{rules}
-use Rattle.codec.specs.Octets.{up_none, up_more, up_all}
+use Rattle.codec.proofs.Octets.{up_none, up_more, up_all}
 use Rattle.codec.proofs.little.put_octets.Goals as goal
 
 pub loop-i-init : goal.loop-i-init

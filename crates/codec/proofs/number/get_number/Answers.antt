@@ -2,34 +2,34 @@ use Rattle.std.proofs.Common.{rules}
 use Rattle.codec.specs.Numbers.{number, second}
 use Rattle.codec.proofs.number.get_number.Goals as goal
 
-pub returns-in-err-first : goal.returns-in-err-first
+pub returns-in_err-first : goal.returns-in_err-first
 unfolding number second
-returns-in-err-first c = search rules
+returns-in_err-first c = search rules
 
-pub returns-in-err-b : goal.returns-in-err-b
+pub returns-in_err-b-in_default-2 : goal.returns-in_err-b-in_default-2
 unfolding number second
-returns-in-err-b c = search rules
+returns-in_err-b-in_default-2 c = search rules
 
-pub returns-in-err-a : goal.returns-in-err-a
+pub returns-in_err-a-in-249 : goal.returns-in_err-a-in-249
 unfolding number second
-returns-in-err-a c = search rules
+returns-in_err-a-in-249 c = search rules
 
-pub returns-in-err-b-2 : goal.returns-in-err-b-2
+pub returns-in_err-b-in-249 : goal.returns-in_err-b-in-249
 unfolding number second
-returns-in-err-b-2 c = search rules
+returns-in_err-b-in-249 c = search rules
 
-pub returns-then-f-le-ONE-BYTE-LAST : goal.returns-then-f-le-ONE-BYTE-LAST
+pub returns-then-f-le-ONE_BYTE_LAST : goal.returns-then-f-le-ONE_BYTE_LAST
 unfolding number second
-returns-then-f-le-ONE-BYTE-LAST c = search rules
+returns-then-f-le-ONE_BYTE_LAST c = search rules
 
-pub returns-in-ok-b : goal.returns-in-ok-b
+pub returns-in_ok-b-in_default-2 : goal.returns-in_ok-b-in_default-2
 unfolding number second
-returns-in-ok-b c = search rules
+returns-in_ok-b-in_default-2 c = search rules
 
-pub returns-in-ok-b-2 : goal.returns-in-ok-b-2
+pub returns-in_ok-b-in-249 : goal.returns-in_ok-b-in-249
 unfolding number second
-returns-in-ok-b-2 c = search rules
+returns-in_ok-b-in-249 c = search rules
 
-pub returns-in-default-3 : goal.returns-in-default-3
+pub returns-in_default-3 : goal.returns-in_default-3
 unfolding number second
-returns-in-default-3 c = search rules
+returns-in_default-3 c = search rules

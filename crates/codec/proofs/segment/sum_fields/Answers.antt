@@ -1,5 +1,5 @@
 use Rattle.std.proofs.Common.{rules}
-use Rattle.codec.specs.Headers.{sums-fields}
+use Rattle.codec.proofs.Headers.{sums-fields}
 use Rattle.codec.proofs.segment.sum_fields.Goals as goal
 
 pub returns : goal.returns

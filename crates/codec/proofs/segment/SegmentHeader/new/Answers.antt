@@ -1,14 +1,14 @@
 use Rattle.std.proofs.Common.{◌≡◌, ℕ, ◌-◌, ap, ◌∙◌}
 use Rattle.codec.specs.Segments.{segment_header, segment_of, checks}
 use Rattle.codec.specs.declared.segment.SegmentHeader.{SegmentHeader}
-use Rattle.codec.specs.Headers.{checks_written}
+use Rattle.codec.proofs.Headers.{checks_written}
 use Rattle.codec.proofs.segment.SegmentHeader.new.Goals as goal
 
 pub returns : goal.returns
 returns c =
-    let F : ℕ → SegmentHeader = λ n. record { crc32 = 0xFFFF_FFFF - n; lsn = c.args.lsn; max_stable_lsn = c.args.max-stable-lsn } in
-    let made : F c.sum-fields-crc32.result ≡ segment_of c.args.lsn.bits c.args.max-stable-lsn.bits = ap F c.sum-fields-crc32.ensures in
+    let F : ℕ → SegmentHeader = λ n. record { crc32 = 0xFFFF_FFFF - n; lsn = c.args.lsn; max_stable_lsn = c.args.max_stable_lsn } in
+    let made : F c.sum_fields-crc32.result ≡ segment_of c.args.lsn.bits c.args.max_stable_lsn.bits = ap F c.sum_fields-crc32.ensures in
     record {
       value = made;
-      checks = ap (λ h. checks (segment_header h)) made ∙ checks_written c.args.lsn.bits c.args.max-stable-lsn.bits;
+      checks = ap (λ h. checks (segment_header h)) made ∙ checks_written c.args.lsn.bits c.args.max_stable_lsn.bits;
     }

@@ -1,4 +1,4 @@
 use Rattle.codec.proofs.serialization.U32Serialize.deserialize.Goals as goal
 
-pub overflow-cast-result : goal.overflow-cast-result
-overflow-cast-result c = record { fits = c.in-ok-n.ensures.bound }
+pub overflow_cast-result : goal.overflow_cast-result
+overflow_cast-result c = record { fits = c.in_ok-n.ensures.bound }

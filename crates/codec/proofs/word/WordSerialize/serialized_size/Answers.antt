@@ -1,5 +1,5 @@
 use Rattle.std.proofs.Common.{rules}
-use Rattle.codec.specs.Octets.{length-octets}
+use Rattle.codec.specs.Laws.{length-octets}
 use Rattle.codec.proofs.word.WordSerialize.serialized_size.Goals as goal
 
 pub returns : goal.returns

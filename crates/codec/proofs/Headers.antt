@@ -1,26 +1,18 @@
 -- Segment headers. Assumes nothing.
-use Rattle.std.specs.Prelude.{◌≡◌, ℕ, ◌+◌, ◌-◌, ◌^◌, ◌<◌, true, false, List, ◌++◌, length, take, drop, replicate, Some, None, Option, ◌==◌, bit_xor, nat_eq, refl}
-use Rattle.std.proofs.Common.{sym, ap, ap₂, ◌∙◌, subst, append_assoc, arith, length-append, take-add, get_or-drop}
-use Rattle.std.specs.Int.Bits.{xor_assoc, xor_self, xor_zero_r}
-use Rattle.std.proofs.lemmas.Nat.{xor_lt}
+use Rattle.std.specs.Prelude.{◌≡◌, ℕ, ◌+◌, ◌^◌, ◌<◌, true, false, List, ◌++◌, length, take, drop, replicate, Some, None, Option, ◌==◌, nat_eq, refl}
+use Rattle.std.proofs.Common.{sym, ap, ap₂, ◌∙◌, subst, arith, length-append, take-add, get_or-drop}
 use Rattle.std.proofs.lemmas.List.Edits.{sets}
 use Rattle.std.proofs.lemmas.List.{take_at, drop_at, take_all, length-take-le, length-drop}
 use Rattle.std.proofs.lemmas.Bool.{eq-eqb}
 use Rattle.checksum.specs.Crc.{crc32}
 use Rattle.checksum.proofs.Values.{crc32-lt, crc32_zeros16}
+use Rattle.codec.specs.Laws.{length-octets, little-octets, masked_back}
 use Rattle.codec.specs.Numbers.{Bytes, octets, little, field}
 use Rattle.codec.specs.Serial.{next}
-use Rattle.codec.specs.Segments.{masked, complement, fields, segment_header, SegmentFits, read_segment_header, segment_of, checks}
+use Rattle.codec.specs.Segments.{masked, complement, fields, segment_header, read_segment_header, segment_of, checks}
 use Rattle.codec.specs.declared.segment.SegmentHeader.{SegmentHeader}
-use Rattle.codec.specs.Octets.{length-octets, little-octets, octets-little, bytes_part, field_back, Read, field_read, some_is}
-use Rattle.codec.specs.Writes.{sets_then, sets_whole}
-
--- ---- masks
-pub masked_back : (n : ℕ) → masked (masked n) ≡ n
-masked_back n = xor_assoc n _ _ ∙ ap (bit_xor n) (xor_self 0x7FFF_FFFF_FFFF_FFFF) ∙ xor_zero_r n
-
-pub masked-lt : (n : ℕ) → n < 2 ^ 64 → masked n < 2 ^ 64
-masked-lt n h = xor_lt 64 n 0x7FFF_FFFF_FFFF_FFFF h (omega arith)
+use Rattle.codec.proofs.Octets.{octets-little, bytes_part, Read, field_read, some_is}
+use Rattle.codec.proofs.Writes.{sets_then, sets_whole}
 
 -- ---- the bytes
 pub length_fields : (lsn mark : ℕ) → length (fields lsn mark) ≡ 16
@@ -68,31 +60,6 @@ checks_written lsn mark =
 pub checks-zeros : checks (replicate 20 0) ≡ false
 unfolding checks little
 checks-zeros = ap (nat_eq 0xFFFF_FFFF) crc32_zeros16
-
--- ---- there and back
-after_lsn : ℕ → ℕ → List ℕ → Option (SegmentHeader × List ℕ)
-after_lsn crc lsn bs =
-    next (field 8 bs) λ mark rest. Some (record { crc32 = crc; lsn = record { bits = lsn }; max_stable_lsn = record { bits = masked mark } }, rest)
-
-after_crc : ℕ → List ℕ → Option (SegmentHeader × List ℕ)
-after_crc crc bs =
-    next (field 8 bs) λ lsn bs. next (field 8 bs) λ mark rest.
-    Some (record { crc32 = crc; lsn = record { bits = masked lsn }; max_stable_lsn = record { bits = masked mark } }, rest)
-
-pub segment_back : (h : SegmentHeader) (rest : List ℕ) → SegmentFits h → read_segment_header (segment_header h ++ rest) ≡ Some (h, rest)
-unfolding after_lsn after_crc
-segment_back h rest v =
-    let l = h.lsn.bits in
-    let m = h.max_stable_lsn.bits in
-    let a = octets 8 (masked l) in
-    let b = octets 8 (masked m) in
-    ap read_segment_header (append_assoc (octets 4 h.crc32) (a ++ b) rest ∙ ap (λ r. octets 4 h.crc32 ++ r) (append_assoc a b rest))
-    ∙ ap (λ o. next o after_crc) (field_back 4 h.crc32 (a ++ (b ++ rest)) v.0)
-    ∙ ap (λ o. next o λ n bs. after_lsn h.crc32 (masked n) bs) (field_back 8 (masked l) (b ++ rest) (masked-lt l v.1))
-    ∙ ap (λ n. after_lsn h.crc32 n (b ++ rest)) (masked_back l)
-    ∙ ap (λ o. next o λ n bs. Some (record { crc32 = h.crc32; lsn = h.lsn; max_stable_lsn = record { bits = masked n } }, bs))
-    (field_back 8 (masked m) rest (masked-lt m v.2))
-    ∙ ap (λ n. Some (record { crc32 = h.crc32; lsn = h.lsn; max_stable_lsn = record { bits = n } }, rest)) (masked_back m)
 
 -- what a reader found: the first part, and what the others made of the rest
 next_some : {A B : Type 0} (o : Option (A × List ℕ)) (f : A → List ℕ → Option (B × List ℕ)) (y : B × List ℕ)

@@ -1,15 +1,12 @@
 -- Fields of a fixed number of bytes. Assumes nothing.
-use Rattle.std.proofs.Common.{⊎_elim, sym, ap, ap₂, ◌∙◌, subst, arith, mul-suc, pow-add, pow_mono, length-append, length-take, get_or-drop}
-use Rattle.std.specs.Prelude.{◌≡◌, ℕ, zero, suc, ◌+◌, ◌-◌, ◌*◌, ◌/◌, ◌%◌, ◌^◌, ◌<◌, ◌≤◌, List, [], ◌∷◌, ◌++◌, length, take, drop, Some, bit_and, nat_le, slice_index, slice_index_or, slice_set, refl}
+use Rattle.std.proofs.Common.{⊎_elim, sym, ap, ap₂, ◌∙◌, subst, arith, pow_mono, length-take, get_or-drop}
+use Rattle.std.specs.Prelude.{◌≡◌, ℕ, zero, suc, ◌+◌, ◌-◌, ◌*◌, ◌/◌, ◌%◌, ◌^◌, ◌<◌, ◌≤◌, List, [], ◌∷◌, length, take, drop, Some, bit_and, nat_le, slice_index, slice_index_or, slice_set, refl}
 use Rattle.std.proofs.lemmas.Nat.{and_mask}
 use Rattle.std.proofs.lemmas.List.Edits.{sets}
-use Rattle.std.proofs.lemmas.List.{drop_more, drop_all, take_at, drop_at, get_or-take, get_or_past, length-take-le, take-take}
+use Rattle.std.proofs.lemmas.List.{drop_more, drop_all, get_or-take, get_or_past, length-take-le, take-take}
 use Rattle.std.proofs.lemmas.Bool.{cond-true, cond_both, cases_lt, le-leb, leb-true}
+use Rattle.codec.specs.Laws.{bits-suc}
 use Rattle.codec.specs.Numbers.{Bytes, little, octets, field}
-
--- one byte more has eight bits more
-bits-suc : (k : ℕ) → 2 ^ (8 * suc k) ≡ 2 ^ (8 * k) * 256
-bits-suc k = ap (λ n. 2 ^ n) (mul-suc 8 k) ∙ pow-add 2 (8 * k) 8
 
 pub bits-le : (k : ℕ) → k ≤ 8 → 2 ^ (8 * k) ≤ 2 ^ 64
 bits-le k h = let p : 8 * k ≤ 64 = omega arith in pow_mono p
@@ -53,25 +50,6 @@ up_none l at k n = ap₂ (λ a j. sets l a (octets j n)) (omega arith) (omega ar
 pub up_all : (l : List ℕ) (at i k n : ℕ) → k ≤ i → sets l (at + i) (octets (k - i) n) ≡ l
 unfolding octets
 up_all l at i k n h = let z : k - i ≡ 0 = omega arith in ap (λ j. sets l (at + i) (octets j n)) z
-
--- ---- there and back
-pub length-octets : (k n : ℕ) → length (octets k n) ≡ k
-unfolding octets
-length-octets zero n = refl
-length-octets (suc k) n = ap suc (length-octets k (n / 256))
-
-pub little-octets : (k n : ℕ) → n < 2 ^ (8 * k) → little (octets k n) ≡ n
-unfolding octets little
-little-octets zero n h = omega arith
-little-octets (suc k) n h = let e = little-octets k (n / 256) (omega (arith, bits-suc k)) in omega arith
-
-pub field_back : (k n : ℕ) (rest : List ℕ) → n < 2 ^ (8 * k) → field k (octets k n ++ rest) ≡ Some (n, rest)
-unfolding field
-field_back k n rest h =
-    let len = length-octets k n in
-    let enough : k ≤ length (octets k n ++ rest) = omega (arith, length-append (octets k n) rest) in
-    cond-true _ _ _ (le-leb k (length (octets k n ++ rest)) enough)
-    ∙ ap₂ (λ m r. Some (m, r)) (ap little (take_at (octets k n) rest k len) ∙ little-octets k n h) (drop_at (octets k n) rest k len)
 
 pub field_is : (k r : ℕ) (buf front rest : List ℕ) → k ≤ length buf → front ≡ take k buf → rest ≡ drop k buf → r ≡ little (take k front) → Some (r, rest) ≡ field k buf
 unfolding field

@@ -1,50 +1,12 @@
 -- A number that is written is read back. Assumes nothing.
-use Rattle.std.specs.Prelude.{◌≡◌, ℕ, suc, ◌+◌, ◌-◌, ◌*◌, ◌/◌, ◌^◌, ◌<◌, ◌≤◌, ◌⊎◌, List, [], ◌∷◌, ◌++◌, length, take, Some, Option, ◌==◌, nat_le, nat_lt, slice_set, refl}
+use Rattle.std.specs.Prelude.{◌≡◌, ℕ, suc, ◌+◌, ◌-◌, ◌*◌, ◌^◌, ◌<◌, ◌≤◌, ◌⊎◌, List, [], ◌∷◌, length, take, Some, Option, ◌==◌, nat_le, nat_lt, slice_set, refl}
 use Rattle.std.proofs.Common.{inl, inr, ⊎_elim, sym, ap, ap₂, ◌∙◌, subst, arith, length-drop, pow_mono, add-one}
 use Rattle.std.proofs.lemmas.List.Edits.{sets}
 use Rattle.std.proofs.lemmas.List.{length-take-le}
-use Rattle.std.proofs.lemmas.Bool.{cond-true, cond-false, cond_both, cases_lt, le-leb, lt-leb, ne_eqb, leb-true, leb-false, ltb-true, ltb-false, eqb-false}
-use Rattle.codec.specs.Numbers.{Bytes, octets, field, second, third, formed, number, width, shortest, Examples}
-use Rattle.codec.specs.Octets.{field_back, length-octets, little-lt, bytes_part, field_read, some_is}
-
--- the four forms, by the first byte
-formed_1 : (f : ℕ) (bs : List ℕ) → f ≤ 240 → formed f bs ≡ Some (f, bs)
-formed_1 f bs h = cond-true _ _ _ (le-leb f 240 h)
-
-formed_2 : (f : ℕ) (bs : List ℕ) → 240 < f → f ≤ 248 → formed f bs ≡ second (240 + 256 * (f - 241)) bs
-formed_2 f bs h k = cond-false _ _ _ (lt-leb f 240 h) ∙ cond-true _ _ _ (le-leb f 248 k)
-
-formed_4 : (f : ℕ) (bs : List ℕ) → 249 < f → formed f bs ≡ field (f - 247) bs
-formed_4 f bs h =
-    cond-false _ _ _ (lt-leb f 240 (omega arith)) ∙ cond-false _ _ _ (lt-leb f 248 (omega arith)) ∙ cond-false _ _ _ (ne_eqb f 249 (λ e. omega arith))
-
--- the width holds the number, and lies from 3 to 8
-pub record Wide (n w : ℕ) : Type 0 where
-  pub low : 3 ≤ w
-  pub high : w ≤ 8
-  pub holds : n < 2 ^ (8 * w)
-
-pub width-wide : (n : ℕ) → n < 2 ^ 64 → Wide n (width n)
-width-wide n h =
-    cond_both _ _ _ (Wide n) (λ e. record { low = omega arith; high = omega arith; holds = ltb-true n (2 ^ 24) e }) λ _.
-    cond_both _ _ _ (Wide n) (λ e. record { low = omega arith; high = omega arith; holds = ltb-true n (2 ^ 32) e }) λ _.
-    cond_both _ _ _ (Wide n) (λ e. record { low = omega arith; high = omega arith; holds = ltb-true n (2 ^ 40) e }) λ _.
-    cond_both _ _ _ (Wide n) (λ e. record { low = omega arith; high = omega arith; holds = ltb-true n (2 ^ 48) e }) λ _.
-    cond_both _ _ _ (Wide n) (λ e. record { low = omega arith; high = omega arith; holds = ltb-true n (2 ^ 56) e }) λ _.
-    record { low = omega arith; high = omega arith; holds = h }
-
-pub number_back : (n : ℕ) (rest : List ℕ) → n < 2 ^ 64 → number (shortest n ++ rest) ≡ Some (n, rest)
-unfolding shortest number second
-number_back n rest h =
-    let P : List ℕ → Type 0 = λ ds. number (ds ++ rest) ≡ Some (n, rest) in
-    cond_both (nat_le n 240) _ _ P (λ e. formed_1 n rest (leb-true n 240 e)) λ e1.
-    cond_both (nat_le n 2287) _ _ P
-    (λ e. let a = leb-false n 240 e1 in let b = leb-true n 2287 e in
-    formed_2 (241 + (n - 240) / 256) _ (omega arith) (omega arith) ∙ ap (λ m. Some (m, rest)) (omega arith)) λ e2.
-    cond_both (nat_le n 67823) _ _ P
-    (λ e. let a = leb-false n 2287 e2 in let b = leb-true n 67823 e in ap (λ m. Some (m, rest)) (omega arith)) λ e3.
-    let w = width-wide n h in
-    formed_4 (247 + width n) _ (omega (arith, w.low)) ∙ ap (λ k. field k (octets (width n) n ++ rest)) (omega arith) ∙ field_back (width n) n rest w.holds
+use Rattle.std.proofs.lemmas.Bool.{cond-true, cond-false, cond_both, cases_lt, le-leb, lt-leb, leb-true, leb-false, ltb-false, eqb-false}
+use Rattle.codec.specs.Laws.{length-octets, width-wide}
+use Rattle.codec.specs.Numbers.{Bytes, octets, field, second, third, number, width, shortest, Examples}
+use Rattle.codec.proofs.Octets.{little-lt, bytes_part, field_read, some_is}
 
 -- the long form
 pub shortest_long : (n : ℕ) → 67823 < n → shortest n ≡ (247 + width n) ∷ octets (width n) n

@@ -1,34 +1,17 @@
 -- Messages and their headers. Assumes nothing.
-use Rattle.std.specs.Prelude.{◌≡◌, ℕ, ◌+◌, ◌-◌, ◌≤◌, List, [], ◌∷◌, ◌++◌, length, take, Some, Option, refl}
-use Rattle.std.proofs.Common.{sym, ap, ap₂, ◌∙◌, append_assoc, arith, length-append, drop_at}
+use Rattle.std.specs.Prelude.{◌≡◌, ℕ, ◌+◌, ◌-◌, ◌≤◌, List, [], ◌∷◌, ◌++◌, length, take, Some}
+use Rattle.std.proofs.Common.{sym, ap, ◌∙◌, append_assoc, arith, length-append, drop_at}
 use Rattle.std.proofs.lemmas.List.Edits.{sets}
 use Rattle.checksum.specs.Crc.{crc32}
-use Rattle.layout.specs.Kinds.{kind_number, kind_of}
+use Rattle.layout.specs.Kinds.{kind_number}
+use Rattle.codec.specs.Laws.{header_back, length-octets}
 use Rattle.codec.specs.Messages.{behind, message_header, MessageFits, read_message_header, message_sum, message_of, message, written}
-use Rattle.codec.specs.Numbers.{octets, second, number, shortest}
+use Rattle.codec.specs.Numbers.{octets, shortest}
 use Rattle.codec.specs.Segments.{complement}
-use Rattle.codec.specs.Serial.{next}
 use Rattle.layout.specs.declared.kind.MessageKind.{MessageKind}
-use Rattle.layout.specs.declared.kind.MessageKind.TheVariants.{Corrupted, Canceled, Cap, BatchManifest, Free, Counter, InlineMeta, BlobMeta, InlineNode, BlobNode, InlineLink, BlobLink}
 use Rattle.codec.specs.declared.message.Message.{Message}
 use Rattle.codec.specs.declared.message_header.MessageHeader.{MessageHeader}
-use Rattle.codec.specs.Forms.{number_back}
-use Rattle.codec.specs.Octets.{field_back, length-octets}
-use Rattle.codec.specs.Writes.{sets_then, take_front}
-
-pub kind_back : (k : MessageKind) → kind_of (kind_number k) ≡ k
-kind_back Corrupted = refl
-kind_back Canceled = refl
-kind_back Cap = refl
-kind_back BatchManifest = refl
-kind_back Free = refl
-kind_back Counter = refl
-kind_back InlineMeta = refl
-kind_back BlobMeta = refl
-kind_back InlineNode = refl
-kind_back BlobNode = refl
-kind_back InlineLink = refl
-kind_back BlobLink = refl
+use Rattle.codec.proofs.Writes.{sets_then, take_front}
 
 -- ---- lengths
 pub length_behind : (k : MessageKind) (len segment page : ℕ)
@@ -56,38 +39,6 @@ put_header h l m1 m2 m3 m4 m5 at a2 a3 e1 e2 e3 n2 e4 n3 e5 =
     (sets_then m1 m2 m5 (at + 4) (at + 5) k (a ++ (b ++ c)) e2 (omega arith)
     (sets_then m2 m3 m5 (at + 5) a2 a (b ++ c) e3 n2
     (sets_then m3 m4 m5 a2 a3 b c e4 n3 e5)))
-
--- ---- there and back
-after_kind : ℕ → MessageKind → List ℕ → Option (MessageHeader × List ℕ)
-after_kind crc kind bs =
-    next (number bs) λ len bs. next (number bs) λ segment bs. next (number bs) λ page rest.
-    Some (record { crc32 = crc; kind = kind; len = len; segment_number = segment; pid = page }, rest)
-
-after_crc : ℕ → List ℕ → Option (MessageHeader × List ℕ)
-unfolding after_kind
-after_crc crc bs = next (second 0 bs) λ kind bs. after_kind crc (kind_of kind) bs
-
-second_back : (b : ℕ) (bs : List ℕ) → second 0 (b ∷ bs) ≡ Some (b, bs)
-unfolding second
-second_back b bs = ap (λ n. Some (n, bs)) (omega arith)
-
-pub header_back : (h : MessageHeader) (rest : List ℕ) → MessageFits h → read_message_header (message_header h ++ rest) ≡ Some (h, rest)
-unfolding after_kind after_crc
-header_back h rest v =
-    let a = shortest h.len in
-    let b = shortest h.segment_number in
-    let c = shortest h.pid in
-    let k = kind_number h.kind in
-    ap read_message_header (append_assoc (octets 4 h.crc32) (k ∷ [] ++ (a ++ (b ++ c))) rest)
-    ∙ ap (λ o. next o after_crc) (field_back 4 h.crc32 (k ∷ [] ++ (a ++ (b ++ c)) ++ rest) v.0)
-    ∙ ap (λ o. next o λ kind bs. after_kind h.crc32 (kind_of kind) bs) (second_back k ((a ++ (b ++ c)) ++ rest))
-    ∙ ap₂ (λ kind bs. after_kind h.crc32 kind bs) (kind_back h.kind) (append_assoc a (b ++ c) rest ∙ ap (λ r. a ++ r) (append_assoc b c rest))
-    ∙ ap (λ o. next o λ len bs. next (number bs) λ segment bs. next (number bs) λ page rest. Some (record { crc32 = h.crc32; kind = h.kind; len = len; segment_number = segment; pid = page }, rest))
-    (number_back h.len (b ++ (c ++ rest)) v.1)
-    ∙ ap (λ o. next o λ segment bs. next (number bs) λ page rest. Some (record { crc32 = h.crc32; kind = h.kind; len = h.len; segment_number = segment; pid = page }, rest))
-    (number_back h.segment_number (c ++ rest) v.2)
-    ∙ ap (λ o. next o λ page rest. Some (record { crc32 = h.crc32; kind = h.kind; len = h.len; segment_number = h.segment_number; pid = page }, rest))
-    (number_back h.pid rest v.3)
 
 -- ---- whole messages
 abbrev pub unsummed : MessageKind → ℕ → ℕ → ℕ → MessageHeader
