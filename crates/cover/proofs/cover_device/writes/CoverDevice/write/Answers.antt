@@ -1,6 +1,6 @@
 use Rattle.std.proofs.Common.{◌≡◌, ◌+◌, ◌/◌, ◌^◌, ◌<◌, ◌≤◌, length, take, Err, vec_items, vec_len, refl, ap, ◌∙◌, arith, rules}
-use Rattle.device.proofs.Blocks.{fits-bounds}
-use Rattle.cover.proofs.Writes.{room_of, short_of, admitted, not-admitted, after_write}
+use Rattle.device.proofs.Blocks.{fits_bounds}
+use Rattle.cover.proofs.Writes.{room_of, short_of, admitted, not_admitted, after_write}
 use Rattle.cover.specs.Entries.{target}
 use Rattle.cover.specs.Shown.{shown}
 use Rattle.cover.proofs.cover_device.writes.CoverDevice.write.Goals as goal
@@ -11,7 +11,7 @@ returns-in_err-i c =
     let n = length c.args.src.now in
     let some : 0 < n = search rules in
     let bad : c.from_residual.result ≡ Err c.in_err-i.field-0.0 = search rules in
-    let no = not-admitted s.geometry.capacity s.geometry.block_size c.args.at n (take s.live s.table.slots) c.in_err-i.field-0.0 some c.in_err-i.ensures.reply in
+    let no = not_admitted s.geometry.capacity s.geometry.block_size c.args.at n (take s.live s.table.slots) c.in_err-i.field-0.0 some c.in_err-i.ensures.reply in
     record {
       base = (refl, refl);
       reply = bad ∙ no;
@@ -49,7 +49,7 @@ invariant_of-self c =
     let after = after_write s.len s.geometry.capacity size c.block_size-size.result s.live s.table.slots c.mark.new.self.slots
     (vec_items s.buf) (vec_items c.lay_vec.new.cover) s.medium.now c.args.src.now c.args.at c.in_ok-i.i c.in_ok-i.covered
     p c.block_size-size.ensures.value some ok.0 s.zeros ok.1 c.lay_vec.ensures.items c.mark.ensures in
-    let low : c.args.at + n ≤ s.geometry.capacity = (fits-bounds s.geometry.capacity size c.args.at n p ok.0).1 in
+    let low : c.args.at + n ≤ s.geometry.capacity = (fits_bounds s.geometry.capacity size c.args.at n p ok.0).1 in
     record { sized = (omega arith, s.sized.1, omega arith); zeros = λ k h. after.2 k (omega arith) }
 
 pub returns : goal.returns
