@@ -6,22 +6,22 @@ use Rattle.std.proofs.lemmas.Bool.Decides.{nat_tests}
 use Rattle.device.specs.Writes.{loosened, spent}
 use Rattle.cover.specs.Entries.{same_entry, entry_of, unmarked, chosen, target}
 
-same-entry : (a b : Option ℕ) → same_entry a b ≡ true → a ≡ b
-same-entry None None e = refl
-same-entry None (Some b) e = absurd (both_ways false refl e)
-same-entry (Some a) None e = absurd (both_ways false refl e)
-same-entry (Some a) (Some b) e = ap Some (eqb-true a b e)
+same_entry-true : (a b : Option ℕ) → same_entry a b ≡ true → a ≡ b
+same_entry-true None None e = refl
+same_entry-true None (Some b) e = absurd (both_ways false refl e)
+same_entry-true (Some a) None e = absurd (both_ways false refl e)
+same_entry-true (Some a) (Some b) e = ap Some (eqb-true a b e)
 
 -- an entry that is found holds what was wanted
-pub entry-holds : (n : ℕ) (xs : List (Option ℕ)) (w : Option ℕ) (i : ℕ) → entry_of n xs w ≡ Some i → (n ≤ i) × (i < n + length xs) × (get_or xs (i - n) None ≡ w)
-entry-holds n [] w i e = let z : ◌≡◌ {A = ℕ} 0 1 = cc in absurd (omega arith)
-entry-holds n (x ∷ xs) w i e = elim (cases_Bool (same_entry x w)) [
+pub entry_holds : (n : ℕ) (xs : List (Option ℕ)) (w : Option ℕ) (i : ℕ) → entry_of n xs w ≡ Some i → (n ≤ i) × (i < n + length xs) × (get_or xs (i - n) None ≡ w)
+entry_holds n [] w i e = let z : ◌≡◌ {A = ℕ} 0 1 = cc in absurd (omega arith)
+entry_holds n (x ∷ xs) w i e = elim (cases_Bool (same_entry x w)) [
   | inl t ↦
       let s : n ≡ i = grind arith in
       let z : i - n ≡ 0 = omega arith in
-      (omega arith, omega arith, ap (λ j. get_or (x ∷ xs) j None) z ∙ same-entry x w t)
+      (omega arith, omega arith, ap (λ j. get_or (x ∷ xs) j None) z ∙ same_entry-true x w t)
   | inr f ↦
-      let r = entry-holds (n + 1) xs w i (grind arith) in
+      let r = entry_holds (n + 1) xs w i (grind arith) in
       let z : i - n ≡ suc (i - (n + 1)) = omega arith in
       (omega arith, omega arith, ap (λ j. get_or (x ∷ xs) j None) z ∙ r.2)
 ]
@@ -88,15 +88,15 @@ module _ (xs : List (Option ℕ)) (b i : ℕ) (covered : Bool) (to : target xs b
   target_named = (chosen_found (entry_of 0 xs (Some b)) (entry_of 0 xs None) i covered to).0
 
   -- where it is, and what it holds
-  pub target-holds : (i < length xs) × (get_or xs i None ≡ cond covered (Some b) None)
-  target-holds =
+  pub target_holds : (i < length xs) × (get_or xs i None ≡ cond covered (Some b) None)
+  target_holds =
       let z : i - 0 ≡ i = omega arith in
       let same : get_or xs (i - 0) None ≡ get_or xs i None = ap (λ j. get_or xs j None) z in
       elim (cases_Bool covered) [
-        | inl t ↦ let h = entry-holds 0 xs (Some b) i (grind (arith, target_named)) in (omega arith, grind arith)
+        | inl t ↦ let h = entry_holds 0 xs (Some b) i (grind (arith, target_named)) in (omega arith, grind arith)
         | inr f ↦
             let g = (chosen_found (entry_of 0 xs (Some b)) (entry_of 0 xs None) i covered to).1 in
-            let h = entry-holds 0 xs None i (grind arith) in
+            let h = entry_holds 0 xs None i (grind arith) in
             (omega arith, grind arith)
       ]
 
@@ -104,52 +104,52 @@ module _ (xs : List (Option ℕ)) (b i : ℕ) (covered : Bool) (to : target xs b
   pub target_allowed : (is_some (entry_of 0 xs (Some b)) || ltb 0 (unmarked xs)) ≡ true
   target_allowed =
       let n = target_named in
-      let h = target-holds in
+      let h = target_holds in
       elim (cases_Bool covered) [
         | inl t ↦ let o : is_some (entry_of 0 xs (Some b)) ≡ true = grind arith in grind arith
         | inr f ↦ let u = unmarked_mark xs i b h.0 (grind arith) in let o : is_some (entry_of 0 xs (Some b)) ≡ false = grind arith in grind (arith, nat_tests)
       ]
 
   -- where the block is covered already, a mark changes nothing
-  mark-again : covered ≡ true → set xs i (Some b) ≡ xs
-  mark-again t =
-      let h = target-holds in
+  mark_again : covered ≡ true → set xs i (Some b) ≡ xs
+  mark_again t =
+      let h = target_holds in
       let e : get_or xs i None ≡ Some b = grind arith in
       ap (λ v. set xs i v) (sym e) ∙ set-get_or xs i None
 
   pub mark_named : entry_of 0 (set xs i (Some b)) (Some b) ≡ Some i
   mark_named =
       let n = target_named in
-      let h = target-holds in
+      let h = target_holds in
       elim (cases_Bool covered) [
         | inl t ↦
-            ap (λ l. entry_of 0 l (Some b)) (mark-again t) ∙ grind arith
+            ap (λ l. entry_of 0 l (Some b)) (mark_again t) ∙ grind arith
         | inr f ↦ let z : 0 + i ≡ i = omega arith in entry_new 0 xs i b h.0 (grind arith) ∙ ap Some z
       ]
 
   pub mark_other : (c : ℕ) → c ≢ b → entry_of 0 (set xs i (Some b)) (Some c) ≡ entry_of 0 xs (Some c)
   mark_other c ne =
-      let h = target-holds in
+      let h = target_holds in
       let g : eqb b c ≡ false = ne_eqb b c (λ e. ne (sym e)) in
       entry_other 0 xs i b c ne (elim (cases_Bool covered) [ inl t ↦ grind arith | inr f ↦ grind arith ])
 
-  pub unmarked-after : (size at n : ℕ) → b ≡ at / size → 0 < n → unmarked (set xs i (Some b)) ≡ spent size (λ k. is_some (entry_of 0 xs (Some k))) (unmarked xs) at n
-  unmarked-after size at n is some =
+  pub unmarked_after : (size at n : ℕ) → b ≡ at / size → 0 < n → unmarked (set xs i (Some b)) ≡ spent size (λ k. is_some (entry_of 0 xs (Some k))) (unmarked xs) at n
+  unmarked_after size at n is some =
       let m = target_named in
-      let h = target-holds in
+      let h = target_holds in
       let l : is_some (entry_of 0 xs (Some (at / size))) ≡ is_some (entry_of 0 xs (Some b)) = ap (λ k. is_some (entry_of 0 xs (Some k))) (sym is) in
       elim (cases_Bool covered) [
         | inl t ↦
             let o : is_some (entry_of 0 xs (Some b)) ≡ true = grind arith in
-            ap unmarked (mark-again t) ∙ grind (arith, nat_tests)
+            ap unmarked (mark_again t) ∙ grind (arith, nat_tests)
         | inr f ↦
             let u = unmarked_mark xs i b h.0 (grind arith) in
             let o : is_some (entry_of 0 xs (Some b)) ≡ false = grind arith in
             grind (arith, nat_tests)
       ]
 
-  pub loose-after : (size at n : ℕ) → b ≡ at / size → 0 < n → (k : ℕ) → is_some (entry_of 0 (set xs i (Some b)) (Some k)) ≡ loosened size (λ k. is_some (entry_of 0 xs (Some k))) at n k
-  loose-after size at n is some k = elim (cases_eq k b) [
+  pub loose_after : (size at n : ℕ) → b ≡ at / size → 0 < n → (k : ℕ) → is_some (entry_of 0 (set xs i (Some b)) (Some k)) ≡ loosened size (λ k. is_some (entry_of 0 xs (Some k))) at n k
+  loose_after size at n is some k = elim (cases_eq k b) [
     | inl e ↦
         let m : is_some (entry_of 0 (set xs i (Some b)) (Some k)) ≡ true = ap (λ c. is_some (entry_of 0 (set xs i (Some b)) (Some c))) e ∙ ap is_some mark_named in
         grind (arith, nat_tests)

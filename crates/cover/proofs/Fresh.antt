@@ -25,16 +25,16 @@ module _ (slots : List (Option ℕ)) (live : ℕ) (none : slots ≡ replicate 64
   fresh : take live slots ≡ replicate live None
   fresh = ap (take live) none ∙ take-replicate live 64 None low
 
-  pub fresh-entry : (b : ℕ) → entry_of 0 (take live slots) (Some b) ≡ None
-  fresh-entry b = ap (λ l. entry_of 0 l (Some b)) fresh ∙ entry_none 0 live b
+  pub fresh_entry : (b : ℕ) → entry_of 0 (take live slots) (Some b) ≡ None
+  fresh_entry b = ap (λ l. entry_of 0 l (Some b)) fresh ∙ entry_none 0 live b
 
   pub fresh_unmarked : unmarked (take live slots) ≡ live
   fresh_unmarked = ap unmarked fresh ∙ unmarked_all live
 
-  pub fresh-zeros : (size : ℕ) (cover medium : List ℕ) → 0 < size → (k : ℕ) → length medium ≤ k → seen size (take live slots) cover medium k ≡ 0
-  fresh-zeros size cover medium p k h = seen_medium size p (take live slots) cover medium k (fresh-entry (k / size)) ∙ get_or_past medium k 0 h
+  pub fresh_zeros : (size : ℕ) (cover medium : List ℕ) → 0 < size → (k : ℕ) → length medium ≤ k → seen size (take live slots) cover medium k ≡ 0
+  fresh_zeros size cover medium p k h = seen_medium size p (take live slots) cover medium k (fresh_entry (k / size)) ∙ get_or_past medium k 0 h
 
-  pub fresh-shown : (size : ℕ) (cover medium : List ℕ) → 0 < size → shown (length medium) size (take live slots) cover medium ≡ medium
-  fresh-shown size cover medium p =
+  pub fresh_shown : (size : ℕ) (cover medium : List ℕ) → 0 < size → shown (length medium) size (take live slots) cover medium ≡ medium
+  fresh_shown size cover medium p =
       let l = length-shown (length medium) size (take live slots) cover medium in
-      ext_get_or 0 _ _ l (λ k h. get_or-shown (length medium) size (take live slots) cover medium k (omega arith) ∙ seen_medium size p (take live slots) cover medium k (fresh-entry (k / size)))
+      ext_get_or 0 _ _ l (λ k h. get_or-shown (length medium) size (take live slots) cover medium k (omega arith) ∙ seen_medium size p (take live slots) cover medium k (fresh_entry (k / size)))

@@ -7,7 +7,7 @@ use Rattle.std.proofs.lemmas.Bool.Decides.{nat_tests}
 use Rattle.device.proofs.Blocks.{in_block, block_of}
 use Rattle.device.proofs.Written.{lays, length-laid}
 use Rattle.device.specs.Writes.{laid}
-use Rattle.cover.proofs.Entries.{entry-holds, target_named, target-holds, mark_named, mark_other}
+use Rattle.cover.proofs.Entries.{entry_holds, target_named, target_holds, mark_named, mark_other}
 use Rattle.cover.specs.Entries.{entry_of, target}
 use Rattle.cover.specs.Shown.{block_bytes, seen, shown, among, relaid}
 
@@ -87,8 +87,8 @@ module _ (size : ℕ) (p : 0 < size) where
       -- a byte of another block's entry
       cover_there : (c j r : ℕ) → c ≢ b → r < size → entry_of 0 entries (Some c) ≡ Some j → get_or cover' (j * size + r) 0 ≡ get_or cover (j * size + r) 0
       cover_there c j r ne low e =
-          let h = entry-holds 0 entries (Some c) j e in
-          let t = (target-holds entries b i covered to).1 in
+          let h = entry_holds 0 entries (Some c) j e in
+          let t = (target_holds entries b i covered to).1 in
           let z : j - 0 ≡ j = omega arith in
           let g : get_or entries j None ≡ Some c = ap (λ x. get_or entries x None) (sym z) ∙ h.2 in
           let other : j ≢ i = λ q.
@@ -121,8 +121,8 @@ module _ (size : ℕ) (p : 0 < size) where
               seen_cover (set entries i (Some b)) cover' medium k j (m ∙ e) ∙ (cover_there (k / size) j (k % size) ne r e ∙ sym (seen_cover entries cover medium k j e))
 
       -- any byte after the write
-      seen-new : (k : ℕ) → seen size (set entries i (Some b)) cover' medium k ≡ cond (among at (length src) k) (get_or src (k - at) 0) (seen size entries cover medium k)
-      seen-new k = elim (cases_eq (k / size) b) [
+      seen_new : (k : ℕ) → seen size (set entries i (Some b)) cover' medium k ≡ cond (among at (length src) k) (get_or src (k - at) 0) (seen size entries cover medium k)
+      seen_new k = elim (cases_eq (k / size) b) [
         | inl e ↦ seen_here k e
         | inr ne ↦
             let s = seen_there k ne in
@@ -143,12 +143,12 @@ module _ (size : ℕ) (p : 0 < size) where
           let n = length-laid (shown len size entries cover medium) at src in
           ext_get_or 0 _ _ (omega arith) (λ k h.
           let o = get_or-shown (max len (at + length src)) size (set entries i (Some b)) cover' medium k (omega arith) in
-          let s = seen-new k in
+          let s = seen_new k in
           let w = get_or-shown_all k in
           grind (arith, nat_tests, lays))
 
       pub zeros_write : (k : ℕ) → max len (at + length src) ≤ k → seen size (set entries i (Some b)) cover' medium k ≡ 0
       zeros_write k h =
-          let s = seen-new k in
+          let s = seen_new k in
           let z = zeros k (omega arith) in
           grind (arith, nat_tests)

@@ -1,6 +1,6 @@
 -- The block table (docs/RECOVERY.md, "Cover"): an entry is unmarked, or it names the block that it covers. Assumes nothing.
---   same_entry            two entries are equal
---   entry_of              the first entry equal to the one that is wanted, counted from n
+--   same_entry           two entries are equal
+--   entry_of             the first entry equal to the one that is wanted, counted from n
 --   unmarked             how many entries are unmarked
 --   target               the entry that a write to a block goes to, and whether it covers the block already
 use Rattle.std.specs.Prelude.{ℕ, ◌+◌, Bool, true, false, cond, List, [], ◌∷◌, Some, None, Option, ◌==◌}

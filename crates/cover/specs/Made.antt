@@ -1,6 +1,6 @@
 -- How a cover is made (docs/RECOVERY.md, "Cover"). Assumes nothing.
---   cover_refusal         why none is made over a medium of n bytes that begins at the place `first`
---   cover_blocks          how many blocks a cover buffer of n bytes has room for
+--   cover_refusal        why none is made over a medium of n bytes that begins at the place `first`
+--   cover_blocks         how many blocks a cover buffer of n bytes has room for
 use Rattle.std.specs.Prelude.{ℕ, ◌/◌, min, cond, ◌&&◌, Some, None, Option, ◌==◌, nat_le}
 use Rattle.layout.specs.Sizes.{is_segment_size}
 use Rattle.device.specs.declared.error.DeviceError.{DeviceError}

@@ -1,6 +1,6 @@
 -- What a cover stands for (docs/RECOVERY.md, "Cover"). Assumes nothing.
 --   entries              the entries of its table that have a whole block of the cover buffer
---   byte_at               the byte at the place k
+--   byte_at              the byte at the place k
 --   contents             its bytes
 --   covers               whether the block b is covered
 use Rattle.std.specs.Prelude.{ℕ, Bool, List, take, is_some, Some, vec_items, Option}

@@ -1,6 +1,6 @@
 -- What a cover shows (docs/RECOVERY.md, "Cover"): its table has `entries`, of which entry i owns block i of the cover buffer
 -- `cover`, and what no entry names is read from `medium`. Assumes nothing.
---   block_bytes           the bytes of a block, without the zeros past the medium's end
+--   block_bytes          the bytes of a block, without the zeros past the medium's end
 --   seen                 the byte at the place k
 --   shown                the bytes of a device of `len` bytes
 --   among                k is one of the n places from `at` on

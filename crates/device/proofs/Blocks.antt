@@ -32,7 +32,7 @@ block_end size at n p same =
 pub fits_one_block : (capacity size at n : ℕ) → 0 < size → 0 < n → at % size + n ≤ size → at + n ≤ capacity → fits capacity size at n ≡ true
 fits_one_block capacity size at n p some short low = let e = one_block size at n p some short in grind (arith, nat_tests)
 
-pub fits-bounds : (capacity size at n : ℕ) → 0 < size → fits capacity size at n ≡ true → (at % size + n ≤ size) × (at + n ≤ capacity)
-fits-bounds capacity size at n p e =
+pub fits_bounds : (capacity size at n : ℕ) → 0 < size → fits capacity size at n ≡ true → (at % size + n ≤ size) × (at + n ≤ capacity)
+fits_bounds capacity size at n p e =
     let same : at / size ≡ (at + (n - 1)) / size = grind (arith, nat_tests) in
     (block_end size at n p same, grind (arith, nat_tests))

@@ -11,9 +11,9 @@ pub accepted : (capacity size : ℕ) (loose : ℕ → Bool) (spare at n : ℕ) �
     → Ok tt ≡ write_reply capacity size loose spare at n
 accepted capacity size loose spare at n fit free = grind (arith, nat_tests)
 
-pub no-spare : (capacity size : ℕ) (loose : ℕ → Bool) (spare at n : ℕ) → 0 < n → fits capacity size at n ≡ true → loose (at / size) ≡ false → spare ≡ 0
+pub no_spare : (capacity size : ℕ) (loose : ℕ → Bool) (spare at n : ℕ) → 0 < n → fits capacity size at n ≡ true → loose (at / size) ≡ false → spare ≡ 0
     → Err NoSpare ≡ write_reply capacity size loose spare at n
-no-spare capacity size loose spare at n some fit shut none = grind (arith, nat_tests)
+no_spare capacity size loose spare at n some fit shut none = grind (arith, nat_tests)
 
 -- ---- reads
 pub exact_ok : (first from n : ℕ) (bytes : List ℕ) (u : Unit {0}) → Ok u ≡ exact_reply first bytes from n → inside first bytes from n ≡ true

@@ -34,8 +34,8 @@ pub length-written : (old : List ℕ) (at : ℕ) (new : List ℕ) → 0 < length
 length-written old at new h = let e = written_some old at new h in let l = length-laid old at new in cc
 
 -- each byte after a write, an empty one too
-pub get_d_written : (old : List ℕ) (at : ℕ) (new : List ℕ) (k : ℕ) → get_or (written old at new) k 0 ≡ cond (leb at k && ltb k (at + length new)) (get_or new (k - at) 0) (get_or old k 0)
-get_d_written old at new k = elim (cases_lt 0 (length new)) [
+pub get_or-written : (old : List ℕ) (at : ℕ) (new : List ℕ) (k : ℕ) → get_or (written old at new) k 0 ≡ cond (leb at k && ltb k (at + length new)) (get_or new (k - at) 0) (get_or old k 0)
+get_or-written old at new k = elim (cases_lt 0 (length new)) [
   | inl h ↦ let e = written_some old at new h in grind (arith, lays, nat_tests)
   | inr h ↦ let e = written_none old at new (omega arith) in grind (arith, nat_tests)
 ]
@@ -83,7 +83,7 @@ part_by xs ys at n len low all = ext_get_or 0 _ _ (grind (arith, places)) (λ k 
 pub part-written : (old : List ℕ) (at : ℕ) (new : List ℕ) → 0 < length new → part 0 (written old at new) at (length new) ≡ new
 part-written old at new some =
     let l = length-written old at new some in
-    sym (part_by (written old at new) new at (length new) refl (omega arith) (λ k h. let e = get_d_written old at new (at + k) in grind (arith, nat_tests)))
+    sym (part_by (written old at new) new at (length new) refl (omega arith) (λ k h. let e = get_or-written old at new (at + k) in grind (arith, nat_tests)))
 
 -- and elsewhere all is read as before
 pub part-written_apart : (old : List ℕ) (at : ℕ) (new : List ℕ) (from n : ℕ) → 0 < length new → from + n ≤ length old
@@ -91,4 +91,4 @@ pub part-written_apart : (old : List ℕ) (at : ℕ) (new : List ℕ) (from n : 
 part-written_apart old at new from n some low apart =
     let l = length-written old at new some in
     sym (part_by (written old at new) (part 0 old from n) from n (grind (arith, places)) (omega arith)
-    (λ k h. let e = get_d_written old at new (from + k) in let o : get_or (part 0 old from n) k 0 ≡ get_or old (from + k) 0 = grind (arith, places) in grind (arith, nat_tests)))
+    (λ k h. let e = get_or-written old at new (from + k) in let o : get_or (part 0 old from n) k 0 ≡ get_or old (from + k) 0 = grind (arith, places) in grind (arith, nat_tests)))

@@ -5,8 +5,8 @@
 --   available            how many of the wanted bytes there are
 --   part                 those bytes
 --   filled               a buffer `dst` for them after such a read: the bytes that there are, and its own behind them
---   exact_reply           what a read of all of them replies
---   eof_reply             what a read of as many as there are replies
+--   exact_reply          what a read of all of them replies
+--   eof_reply            what a read of as many as there are replies
 use Rattle.std.specs.Prelude.{ℕ, ◌+◌, ◌-◌, min, Bool, cond, ◌&&◌, ◌||◌, List, ◌++◌, length, take, drop, Ok, Err, Result, ◌==◌, nat_le}
 use Rattle.device.specs.declared.error.DeviceError.{DeviceError}
 use Rattle.device.specs.declared.error.DeviceError.TheVariants.{Outside}

@@ -3,7 +3,7 @@
 --   laid                 `new` put at `at`, with zeros in a gap before it
 --   written              the bytes after an accepted write; an empty one changes nothing
 --   fits                 first and last byte lie in one block, and none at or above the capacity
---   write_reply           what a write replies
+--   write_reply          what a write replies
 --   loosened             whether the block b is loose after an accepted write
 --   spent                how many are spare after it
 use Rattle.std.specs.Prelude.{ℕ, ◌+◌, ◌-◌, ◌/◌, Bool, cond, not, ◌&&◌, ◌||◌, List, ◌++◌, length, take, drop, replicate, Ok, Err, Result, ◌==◌, nat_le, nat_lt}

@@ -3,8 +3,8 @@ use Rattle.std.proofs.lemmas.List.{at_drop_more, at_drop_all}
 use Rattle.cover.specs.Entries.{entry_of}
 use Rattle.cover.proofs.block_table.find_in.Goals as goal
 
-pub returns-then-same-entry : goal.returns-then-same-entry
-returns-then-same-entry c =
+pub returns-then-same_entry : goal.returns-then-same_entry
+returns-then-same_entry c =
     let xs = c.args.entries.now in
     let i = c.loop-i.i in
     let l : i < length xs = omega arith in

@@ -10,7 +10,7 @@ returns c = λ k. elim c.if-not-covered.branch [
   | then-not-covered w ↦ elim (cases_lt k c.args.start) [
     | inl h ↦ grind (arith, places, nat_tests)
     | inr h ↦ elim (cases_lt k (c.args.start + c.args.size)) [
-      | inl l ↦ let p = w.copy-padded.ensures (k - c.args.start) (grind (arith, places)) in grind (arith, places, nat_tests)
+      | inl l ↦ let p = w.copy_padded.ensures (k - c.args.start) (grind (arith, places)) in grind (arith, places, nat_tests)
       | inr l ↦ grind (arith, places, nat_tests)
     ]
   ]

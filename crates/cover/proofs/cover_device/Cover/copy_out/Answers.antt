@@ -6,19 +6,19 @@ use Rattle.cover.proofs.Shown.{length-shown, get_or-shown}
 use Rattle.cover.specs.Shown.{seen, shown}
 use Rattle.cover.proofs.cover_device.Cover.copy_out.Goals as goal
 
-pub overflow-add-at : goal.overflow-add-at
-overflow-add-at c = let l : c.args.at + c.loop-done.done < 2 ^ 64 = omega arith in search rules
+pub overflow_add-at : goal.overflow_add-at
+overflow_add-at c = let l : c.args.at + c.loop-done.done < 2 ^ 64 = omega arith in search rules
 
 pub loop-done-preserved : goal.loop-done-preserved
 loop-done-preserved c =
     let s = c.args.self.now in
     let done = c.loop-done.done in
-    let n : c.copy-piece-done.result ≤ length c.loop-done.dst - done = grind (arith, places) in (
+    let n : c.copy_piece-done.result ≤ length c.loop-done.dst - done = grind (arith, places) in (
       omega arith,
       λ k h. elim (cases_lt k done) [
         | inl l ↦ let i = c.loop-done.invariant.1 k l in grind (arith, places)
         | inr l ↦
-            let f = c.copy-piece-done.ensures.front (k - done) (omega arith) in
+            let f = c.copy_piece-done.ensures.front (k - done) (omega arith) in
             let e : c.args.at + done + (k - done) ≡ c.args.at + k = omega arith in
             let q = ap (λ x. seen s.geometry.block_size (take s.live s.table.slots) (vec_items s.buf) s.medium.now x) e in
             grind (arith, places)

@@ -12,16 +12,16 @@ returns c =
     let at = c.args.at in
     let p : 0 < size = search rules in
     let m = mod-lt at p in
-    let same : c.block-size-size.result ≡ size = search rules in
-    let from : at % c.block-size-size.result ≡ at % size = ap (λ z. at % z) same in
+    let same : c.block_size-size.result ≡ size = search rules in
+    let from : at % c.block_size-size.result ≡ at % size = ap (λ z. at % z) same in
     record {
       count = search rules;
       front = λ k h.
-          let l : k < length c.copy-padded.new.dst = grind (arith, places) in
-          let q = c.copy-padded.ensures k (grind (arith, places)) in
-          let b = ap (λ l. get_or l (at % c.block-size-size.result + k) 0) c.block-bytes-block.ensures in
-          let v = ap (λ l. get_or (block_bytes c.block-size-size.result entries l s.medium.now (at / c.block-size-size.result)) (at % c.block-size-size.result + k) 0) c.as-slice.ensures.value in
+          let l : k < length c.copy_padded.new.dst = grind (arith, places) in
+          let q = c.copy_padded.ensures k (grind (arith, places)) in
+          let b = ap (λ l. get_or l (at % c.block_size-size.result + k) 0) c.block_bytes-block.ensures in
+          let v = ap (λ l. get_or (block_bytes c.block_size-size.result entries l s.medium.now (at / c.block_size-size.result)) (at % c.block_size-size.result + k) 0) c.as_slice.ensures.value in
           let w = ap (λ z. get_or (block_bytes z entries (vec_items s.buf) s.medium.now (at / z)) (at % z + k) 0) same in
           let t = seen_piece size p entries (vec_items s.buf) s.medium.now at k (omega arith) in
-          get_or_append_left c.copy-padded.new.dst _ 0 k l ∙ (q ∙ (b ∙ (v ∙ (w ∙ sym t))));
+          get_or_append_left c.copy_padded.new.dst _ 0 k l ∙ (q ∙ (b ∙ (v ∙ (w ∙ sym t))));
     }

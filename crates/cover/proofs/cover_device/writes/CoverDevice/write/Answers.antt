@@ -1,17 +1,17 @@
 use Rattle.std.proofs.Common.{◌≡◌, ◌+◌, ◌/◌, ◌^◌, ◌<◌, ◌≤◌, length, take, Err, vec_items, vec_len, refl, ap, ◌∙◌, arith, rules}
-use Rattle.device.proofs.Blocks.{fits-bounds}
-use Rattle.cover.proofs.Writes.{room_of, short_of, admitted, not-admitted, after_write}
+use Rattle.device.proofs.Blocks.{fits_bounds}
+use Rattle.cover.proofs.Writes.{room_of, short_of, admitted, not_admitted, after_write}
 use Rattle.cover.specs.Entries.{target}
 use Rattle.cover.specs.Shown.{shown}
 use Rattle.cover.proofs.cover_device.writes.CoverDevice.write.Goals as goal
 
-pub returns-in-err-i : goal.returns-in-err-i
-returns-in-err-i c =
+pub returns-in_err-i : goal.returns-in_err-i
+returns-in_err-i c =
     let s = c.args.self.now in
     let n = length c.args.src.now in
     let some : 0 < n = search rules in
-    let bad : c.from-residual.result ≡ Err c.in-err-i.field-0.0 = search rules in
-    let no = not-admitted s.geometry.capacity s.geometry.block_size c.args.at n (take s.live s.table.slots) c.in-err-i.field-0.0 some c.in-err-i.ensures.reply in
+    let bad : c.from_residual.result ≡ Err c.in_err-i.field-0.0 = search rules in
+    let no = not_admitted s.geometry.capacity s.geometry.block_size c.args.at n (take s.live s.table.slots) c.in_err-i.field-0.0 some c.in_err-i.ensures.reply in
     record {
       base = (refl, refl);
       reply = bad ∙ no;
@@ -22,35 +22,35 @@ returns-in-err-i c =
       spare = search rules;
     }
 
-pub lay-vec-requires : goal.lay-vec-requires
-lay-vec-requires c =
+pub lay_vec-requires : goal.lay_vec-requires
+lay_vec-requires c =
     let s = c.args.self.now in
     let size = s.geometry.block_size in
     let n = length c.args.src.now in
     let p : 0 < size = search rules in
-    let same = c.block-size-size.ensures.value in
-    let ok = admitted s.geometry.capacity size c.args.at n (target (take s.live s.table.slots) (c.args.at / size)) (c.in-ok-i.i, c.in-ok-i.covered) c.in-ok-i.ensures.reply in
+    let same = c.block_size-size.ensures.value in
+    let ok = admitted s.geometry.capacity size c.args.at n (target (take s.live s.table.slots) (c.args.at / size)) (c.in_ok-i.i, c.in_ok-i.covered) c.in_ok-i.ensures.reply in
     record {
-      room = room_of c.block-size-size.result size s.live c.in-ok-i.i (vec_len s.buf) same c.in-ok-i.ensures.bound.0 s.sized.2;
-      fits = short_of c.block-size-size.result s.geometry.capacity size c.args.at n same p ok.0;
+      room = room_of c.block_size-size.result size s.live c.in_ok-i.i (vec_len s.buf) same c.in_ok-i.ensures.bound.0 s.sized.2;
+      fits = short_of c.block_size-size.result s.geometry.capacity size c.args.at n same p ok.0;
     }
 
-pub overflow-add-at : goal.overflow-add-at
-overflow-add-at c = let low : c.args.at + length c.args.src.now < 2 ^ 64 = c.in-ok-i.ensures.bound.1 in search rules
+pub overflow_add-at : goal.overflow_add-at
+overflow_add-at c = let low : c.args.at + length c.args.src.now < 2 ^ 64 = c.in_ok-i.ensures.bound.1 in search rules
 
-pub invariant-of-self : goal.invariant-of-self
-invariant-of-self c =
+pub invariant_of-self : goal.invariant_of-self
+invariant_of-self c =
     let s = c.args.self.now in
     let size = s.geometry.block_size in
     let n = length c.args.src.now in
     let p : 0 < size = search rules in
     let some : 0 < n = search rules in
-    let ok = admitted s.geometry.capacity size c.args.at n (target (take s.live s.table.slots) (c.args.at / size)) (c.in-ok-i.i, c.in-ok-i.covered) c.in-ok-i.ensures.reply in
-    let after = after_write s.len s.geometry.capacity size c.block-size-size.result s.live s.table.slots c.mark.new.self.slots
-    (vec_items s.buf) (vec_items c.lay-vec.new.cover) s.medium.now c.args.src.now c.args.at c.in-ok-i.i c.in-ok-i.covered
-    p c.block-size-size.ensures.value some ok.0 s.zeros ok.1 c.lay-vec.ensures.items c.mark.ensures in
-    let low : c.args.at + n ≤ s.geometry.capacity = (fits-bounds s.geometry.capacity size c.args.at n p ok.0).1 in
-    ((omega arith, s.sized.1, omega arith), (λ k h. after.2 k (omega arith), tt))
+    let ok = admitted s.geometry.capacity size c.args.at n (target (take s.live s.table.slots) (c.args.at / size)) (c.in_ok-i.i, c.in_ok-i.covered) c.in_ok-i.ensures.reply in
+    let after = after_write s.len s.geometry.capacity size c.block_size-size.result s.live s.table.slots c.mark.new.self.slots
+    (vec_items s.buf) (vec_items c.lay_vec.new.cover) s.medium.now c.args.src.now c.args.at c.in_ok-i.i c.in_ok-i.covered
+    p c.block_size-size.ensures.value some ok.0 s.zeros ok.1 c.lay_vec.ensures.items c.mark.ensures in
+    let low : c.args.at + n ≤ s.geometry.capacity = (fits_bounds s.geometry.capacity size c.args.at n p ok.0).1 in
+    record { sized = (omega arith, s.sized.1, omega arith); zeros = λ k h. after.2 k (omega arith) }
 
 pub returns : goal.returns
 returns c =
@@ -59,15 +59,15 @@ returns c =
     let n = length c.args.src.now in
     let p : 0 < size = search rules in
     let some : 0 < n = search rules in
-    let ok = admitted s.geometry.capacity size c.args.at n (target (take s.live s.table.slots) (c.args.at / size)) (c.in-ok-i.i, c.in-ok-i.covered) c.in-ok-i.ensures.reply in
-    let after = after_write s.len s.geometry.capacity size c.block-size-size.result s.live s.table.slots c.mark.new.self.slots
-    (vec_items s.buf) (vec_items c.lay-vec.new.cover) s.medium.now c.args.src.now c.args.at c.in-ok-i.i c.in-ok-i.covered
-    p c.block-size-size.ensures.value some ok.0 s.zeros ok.1 c.lay-vec.ensures.items c.mark.ensures in
+    let ok = admitted s.geometry.capacity size c.args.at n (target (take s.live s.table.slots) (c.args.at / size)) (c.in_ok-i.i, c.in_ok-i.covered) c.in_ok-i.ensures.reply in
+    let after = after_write s.len s.geometry.capacity size c.block_size-size.result s.live s.table.slots c.mark.new.self.slots
+    (vec_items s.buf) (vec_items c.lay_vec.new.cover) s.medium.now c.args.src.now c.args.at c.in_ok-i.i c.in_ok-i.covered
+    p c.block_size-size.ensures.value some ok.0 s.zeros ok.1 c.lay_vec.ensures.items c.mark.ensures in
     record {
       base = (refl, refl);
       reply = after.0;
       kept = tt;
-      bytes = ap (λ l. shown l size (take s.live c.mark.new.self.slots) (vec_items c.lay-vec.new.cover) s.medium.now) c.max-self.ensures ∙ after.1;
+      bytes = ap (λ l. shown l size (take s.live c.mark.new.self.slots) (vec_items c.lay_vec.new.cover) s.medium.now) c.max-self.ensures ∙ after.1;
       same = (refl, refl);
       loose = after.3;
       spare = after.4;
