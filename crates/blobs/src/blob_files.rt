@@ -43,7 +43,7 @@ impl<'a> BlobFiles<'a> {
     ) -> Result<(), BankFault>
         ensures reply { result ≡ add_reply (length self.old.bytes.now) self.old.used (length file.now) (capacity extents.old) pointer (contents extents.old) }
         ensures bytes { self.new.bytes.now ≡ (if is_ok result then sets self.old.bytes.now self.old.used file.now else self.old.bytes.now) }
-        ensures used { self.new.used ≡ cond (is_ok result) (self.old.used + length file.now) self.old.used }
+        ensures used { self.new.used ≡ (if is_ok result then self.old.used + length file.now else self.old.used) }
         ensures extents { contents extents.new ≡ (if is_ok result then put (extent_at pointer self.old.used (length file.now)) (contents extents.old) else contents extents.old) }
         ensures same { Same extents.old extents.new }
         ensures lender { self.new.bytes.ghost_name ≡ self.old.bytes.ghost_name }

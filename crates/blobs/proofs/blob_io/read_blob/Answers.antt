@@ -2,9 +2,9 @@ use Rattle.std.proofs.Common.{rules}
 use Rattle.blobs.specs.Files.{note_of}
 use Rattle.blobs.proofs.blob_io.read_blob.Goals as goal
 
-pub returns-in-default : goal.returns-in-default
+pub returns-in_default : goal.returns-in_default
 unfolding note_of
-returns-in-default c = search rules
+returns-in_default c = search rules
 
 pub returns-then-is_empty : goal.returns-then-is_empty
 unfolding note_of

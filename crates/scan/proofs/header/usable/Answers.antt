@@ -5,8 +5,8 @@ use Rattle.scan.specs.Headers.{weight}
 use Rattle.scan.proofs.Fields.{lsn_none, lsn_some, read_is, unread, unchecked, below-zero, below_low, in_use}
 use Rattle.scan.proofs.header.usable.Goals as goal
 
-pub returns-in-default : goal.returns-in-default
-returns-in-default c = unread c.args.low c.args.bytes.now c.requires c.in-default.ensures
+pub returns-in_default : goal.returns-in_default
+returns-in_default c = unread c.args.low c.args.bytes.now c.requires c.in_default.ensures
 
 pub returns-then-not-ok : goal.returns-then-not-ok
 returns-then-not-ok c =

@@ -6,9 +6,9 @@ use Rattle.scan.proofs.Gathers.{header-inside, header_there, scanning_none, scan
 use Rattle.scan.proofs.Scans.{scan-size, scan_room, scan_fault, scan-done, is-sized, count_is}
 use Rattle.scan.proofs.segments.scan.Goals as goal
 
-pub returns-in-default : goal.returns-in-default
-returns-in-default g c =
-    let o = scan-size (capacity c.args.order.now) c.args.size (g.D.ReadAt.bytes c.args.device.now) c.args.low c.len-len.result (contents c.clear.new.self) c.in-default.ensures c.clear.ensures.contents in
+pub returns-in_default : goal.returns-in_default
+returns-in_default g c =
+    let o = scan-size (capacity c.args.order.now) c.args.size (g.D.ReadAt.bytes c.args.device.now) c.args.low c.len-len.result (contents c.clear.new.self) c.in_default.ensures c.clear.ensures.contents in
     record { reply = o.reply; contents = o.contents; same = c.clear.ensures.same }
 
 pub returns-then-count-capacity : goal.returns-then-count-capacity

@@ -1,6 +1,6 @@
 use Rattle.std.proofs.Common.{◌+◌, ◌≤◌, length, sym, refl, ap, ◌∙◌}
 use Rattle.std.proofs.lemmas.Bool.{cond-true, cond-false, leb-true}
-use Rattle.codec.specs.Writes.{put_part}
+use Rattle.codec.proofs.Writes.{put_part}
 use Rattle.tables.proofs.Layouts.{same_kept}
 use Rattle.tables.specs.Views.{contents}
 use Rattle.blobs.specs.Adding.{taken}
