@@ -1,5 +1,5 @@
 -- A body through the lent buffer, which is zeroed again. Assumes nothing.
-use Rattle.std.proofs.Common.{◌≡◌, ℕ, ◌+◌, ◌-◌, true, false, cond, List, ◌++◌, length, take, drop, replicate, Ok, Err, sym, ap, ◌∙◌, ap₂, arith, take-append-drop, take_at, drop_at}
+use Rattle.std.proofs.Common.{◌≡◌, ℕ, ◌-◌, true, false, cond, List, ◌++◌, length, take, drop, replicate, Ok, Err, sym, ap, ◌∙◌, ap₂, arith, take-append-drop, take_at, drop_at}
 use Rattle.std.proofs.lemmas.Bool.{cond-true, cond-false}
 use Rattle.device.specs.Reads.{inside, part, exact_reply}
 use Rattle.device.specs.declared.error.DeviceError.{DeviceError}

@@ -4,9 +4,9 @@ use lib.Seq.{take-append-add}
 use Rattle.std.proofs.lemmas.List.{length-take-le}
 use Rattle.std.proofs.lemmas.Bool.{cond-true, le-leb, eq-eqb}
 use Rattle.checksum.specs.Crc.{crc32}
-use Rattle.codec.specs.Bodies.{header_back, length_header}
-use Rattle.codec.specs.Forms.{length-shortest}
-use Rattle.codec.specs.Octets.{length-octets}
+use Rattle.codec.specs.Laws.{header_back, length-octets}
+use Rattle.codec.proofs.Bodies.{length_header}
+use Rattle.codec.proofs.Forms.{length-shortest}
 use Rattle.codec.specs.Messages.{behind, message_header, MessageFits, read_message_header, message_sum, message_of, message}
 use Rattle.codec.specs.Numbers.{octets}
 use Rattle.codec.specs.Segments.{complement}

@@ -1,16 +1,15 @@
 -- A message that was read is not empty and ends inside its segment. Assumes nothing.
-use Rattle.std.proofs.Common.{◌≡◌, ℕ, ◌+◌, ◌-◌, ◌*◌, ◌%◌, ◌<◌, ◌≤◌, Bool, true, false, cond, ◌&&◌, ◌||◌, eqb, leb, List, [], ◌∷◌, ◌++◌, length, take, drop, replicate, Some, None, Option, sym, refl, ap, ◌∙◌, arith, length-append, length-drop, length-take}
+use Rattle.std.proofs.Common.{◌≡◌, ℕ, ◌+◌, ◌-◌, ◌*◌, ◌%◌, ◌<◌, ◌≤◌, cond, ◌&&◌, ◌||◌, eqb, leb, List, [], ◌∷◌, length, take, drop, Some, None, Option, arith, length-append, length-drop, length-take}
 use lib.ListN.{length-replicate}
 use Rattle.std.proofs.lemmas.Bool.{cond_both, leb-true}
 use Rattle.std.proofs.lemmas.Bool.Decides.{nat_tests}
 use Rattle.codec.specs.Messages.{read_message_header}
-use Rattle.codec.specs.Numbers.{little, field, second, third, formed, number}
+use Rattle.codec.specs.Numbers.{little, field, second, third, number}
 use Rattle.codec.specs.Serial.{next}
 use Rattle.codec.specs.declared.message_header.MessageHeader.{MessageHeader}
 use Rattle.device.specs.Reads.{begins}
-use Rattle.messages.specs.Raw.{is_entry, ahead, known, word_in, decided, judged, raw_in, raw_at}
+use Rattle.messages.specs.Raw.{is_entry, ahead, known, decided, judged, raw_in, raw_at}
 use Rattle.messages.specs.declared.log_read.Found.{Found}
-use Rattle.messages.specs.declared.log_read.Raw.{Raw}
 use Rattle.messages.specs.declared.log_read.Raw.TheVariants.{Whole, Corrupted, Short}
 
 -- ---- what is left behind a number or a field is no longer than before

@@ -6,7 +6,7 @@ use Rattle.codec.specs.Fields.{read_word}
 use Rattle.codec.specs.Numbers.{little, field}
 use Rattle.codec.specs.Serial.{next}
 use Rattle.codec.specs.declared.word.Word.{Word}
-use Rattle.codec.specs.Octets.{some_is}
+use Rattle.codec.proofs.Octets.{some_is}
 use Rattle.messages.specs.Raw.{word_in}
 
 -- eight bytes are read whole

@@ -8,7 +8,7 @@ use Rattle.codec.specs.Numbers.{little, field}
 use Rattle.codec.specs.Segments.{read_segment_header, masked, checks}
 use Rattle.codec.specs.Serial.{next}
 use Rattle.codec.specs.declared.segment.SegmentHeader.{SegmentHeader}
-use Rattle.codec.specs.Octets.{some_is}
+use Rattle.codec.proofs.Octets.{some_is}
 use Rattle.scan.specs.Headers.{head_lsn, head_mark, used, weight}
 use Rattle.scan.specs.Offers.{offered}
 
