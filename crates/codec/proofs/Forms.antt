@@ -3,10 +3,25 @@ use Rattle.std.specs.Prelude.{◌≡◌, ℕ, suc, ◌+◌, ◌-◌, ◌*◌, �
 use Rattle.std.proofs.Common.{inl, inr, ⊎_elim, sym, ap, ap₂, ◌∙◌, subst, arith, length-drop, pow_mono, add-one}
 use Rattle.std.proofs.lemmas.List.Edits.{sets}
 use Rattle.std.proofs.lemmas.List.{length-take-le}
-use Rattle.std.proofs.lemmas.Bool.{cond-true, cond-false, cond_both, cases_lt, le-leb, lt-leb, leb-true, leb-false, ltb-false, eqb-false}
-use Rattle.codec.specs.Laws.{length-octets, width-wide}
+use Rattle.std.proofs.lemmas.Bool.{cond-true, cond-false, cond_both, cases_lt, le-leb, lt-leb, leb-true, leb-false, ltb-true, ltb-false, eqb-false}
+use Rattle.codec.specs.Laws.{length-octets}
 use Rattle.codec.specs.Numbers.{Bytes, octets, field, second, third, number, width, shortest, Examples}
 use Rattle.codec.proofs.Octets.{little-lt, bytes_part, field_read, some_is}
+
+-- the width holds the number, and lies from 3 to 8
+pub record Wide (n w : ℕ) : Type 0 where
+  pub low : 3 ≤ w
+  pub high : w ≤ 8
+  pub holds : n < 2 ^ (8 * w)
+
+pub width-wide : (n : ℕ) → n < 2 ^ 64 → Wide n (width n)
+width-wide n h =
+    cond_both _ _ _ (Wide n) (λ e. record { low = omega arith; high = omega arith; holds = ltb-true n (2 ^ 24) e }) λ _.
+    cond_both _ _ _ (Wide n) (λ e. record { low = omega arith; high = omega arith; holds = ltb-true n (2 ^ 32) e }) λ _.
+    cond_both _ _ _ (Wide n) (λ e. record { low = omega arith; high = omega arith; holds = ltb-true n (2 ^ 40) e }) λ _.
+    cond_both _ _ _ (Wide n) (λ e. record { low = omega arith; high = omega arith; holds = ltb-true n (2 ^ 48) e }) λ _.
+    cond_both _ _ _ (Wide n) (λ e. record { low = omega arith; high = omega arith; holds = ltb-true n (2 ^ 56) e }) λ _.
+    record { low = omega arith; high = omega arith; holds = h }
 
 -- the long form
 pub shortest_long : (n : ℕ) → 67823 < n → shortest n ≡ (247 + width n) ∷ octets (width n) n

@@ -1,20 +1,24 @@
--- What is written is read back: the proofs of the law of `Serialize` for each type, and what they stand on. An impl
--- can cite them only from here. Assumes nothing.
-use Rattle.std.specs.Prelude.{◌≡◌, ℕ, zero, suc, ◌+◌, ◌-◌, ◌*◌, ◌/◌, ◌^◌, ◌<◌, ◌≤◌, List, [], ◌∷◌, ◌++◌, length, Some, Option, bit_xor, nat_le, refl}
-use Rattle.std.proofs.Common.{ap, ap₂, ◌∙◌, append_assoc, arith, length-append, mul-suc, pow-add}
+-- What is written is read back: for each type the proof of the law `back` of `Serialize`. These are proofs, and need not
+-- be read: they stand here because an impl can cite nothing of its own crate's proofs/. Assumes nothing.
+use Rattle.std.specs.Prelude.{◌≡◌, ℕ, zero, suc, ◌+◌, ◌-◌, ◌*◌, ◌/◌, ◌%◌, ◌^◌, ◌<◌, ◌≤◌, List, [], ◌∷◌, ◌++◌, length, Some, Option, bit_xor, nat_le, refl}
+use Rattle.std.proofs.Common.{sym, ap, ap₂, ◌∙◌, subst, append_assoc, length-append, mul-suc, pow-add}
+use Rattle.std.proofs.Math.Nat.{zero-add, add_assoc, mod-add-div, div-add-mod, div-lt_iff_lt-mul, add-sub_of_le, add-sub_cancel_left, sub-lt_left_of_lt-add, le-add_right, add-le-add, le-pred_of_lt, le_refl, le_of_lt, lt_of_le_of_lt, zero-lt-suc}
+use Rattle.std.proofs.Math.Arith.{lt-one}
 use Rattle.std.specs.Int.Bits.{xor_assoc, xor_self, xor_zero_r}
 use Rattle.std.proofs.lemmas.Nat.{xor_lt}
 use Rattle.std.proofs.lemmas.List.{take_at, drop_at}
-use Rattle.std.proofs.lemmas.Bool.{cond-true, cond-false, cond_both, le-leb, lt-leb, ne_eqb, leb-true, leb-false, ltb-true}
+use Rattle.std.proofs.lemmas.Bool.{cond-true, cond-false, cond_both, le-leb, lt-leb, leb-true, leb-false, ltb-true}
 use Rattle.layout.specs.Kinds.{kind_number, kind_of}
 use Rattle.layout.specs.declared.kind.MessageKind.{MessageKind}
 use Rattle.layout.specs.declared.kind.MessageKind.TheVariants.{Corrupted, Canceled, Cap, BatchManifest, Free, Counter, InlineMeta, BlobMeta, InlineNode, BlobNode, InlineLink, BlobLink}
+use Rattle.codec.specs.Fields.{eight, read_word}
 use Rattle.codec.specs.Messages.{message_header, MessageFits, read_message_header}
 use Rattle.codec.specs.Numbers.{little, octets, field, second, formed, number, width, shortest}
 use Rattle.codec.specs.Segments.{masked, segment_header, SegmentFits, read_segment_header}
 use Rattle.codec.specs.Serial.{next}
 use Rattle.codec.specs.declared.message_header.MessageHeader.{MessageHeader}
 use Rattle.codec.specs.declared.segment.SegmentHeader.{SegmentHeader}
+use Rattle.codec.specs.declared.word.Word.{Word}
 
 -- ---- fields
 -- one byte more has eight bits more
@@ -28,60 +32,64 @@ length-octets (suc k) n = ap suc (length-octets k (n / 256))
 
 pub little-octets : (k n : ℕ) → n < 2 ^ (8 * k) → little (octets k n) ≡ n
 unfolding octets little
-little-octets zero n h = omega arith
-little-octets (suc k) n h = let e = little-octets k (n / 256) (omega (arith, bits-suc k)) in omega arith
+little-octets zero n h = sym (lt-one h)
+little-octets (suc k) n h =
+    let less : n / 256 < 2 ^ (8 * k) = (div-lt_iff_lt-mul (zero-lt-suc 255)).1 (subst (λ m. n < m) (bits-suc k) h) in
+    ap (λ m. n % 256 + 256 * m) (little-octets k (n / 256) less) ∙ mod-add-div n 256
 
 pub field_back : (k n : ℕ) (rest : List ℕ) → n < 2 ^ (8 * k) → field k (octets k n ++ rest) ≡ Some (n, rest)
 unfolding field
 field_back k n rest h =
     let len = length-octets k n in
-    let enough : k ≤ length (octets k n ++ rest) = omega (arith, length-append (octets k n) rest) in
+    let enough : k ≤ length (octets k n ++ rest) =
+    subst (λ m. k ≤ m) (sym (length-append (octets k n) rest)) (subst (λ m. k ≤ m + length rest) (sym len) (le-add_right k (length rest)))
+    in
     cond-true _ _ _ (le-leb k (length (octets k n ++ rest)) enough)
     ∙ ap₂ (λ m r. Some (m, r)) (ap little (take_at (octets k n) rest k len) ∙ little-octets k n h) (drop_at (octets k n) rest k len)
 
 -- ---- numbers
 pub second_back : (b : ℕ) (bs : List ℕ) → second 0 (b ∷ bs) ≡ Some (b, bs)
 unfolding second
-second_back b bs = ap (λ n. Some (n, bs)) (omega arith)
+second_back b bs = ap (λ n. Some (n, bs)) (zero-add b)
 
--- the four forms, by the first byte
-formed_1 : (f : ℕ) (bs : List ℕ) → f ≤ 240 → formed f bs ≡ Some (f, bs)
-formed_1 f bs h = cond-true _ _ _ (le-leb f 240 h)
+-- a base, then what a number is above it in two bytes
+over_back : (base n : ℕ) → base ≤ n → base + 256 * ((n - base) / 256) + (n - base) % 256 ≡ n
+over_back base n h = add_assoc base _ _ ∙ ap (λ m. base + m) (div-add-mod (n - base) 256) ∙ add-sub_of_le h
 
-formed_2 : (f : ℕ) (bs : List ℕ) → 240 < f → f ≤ 248 → formed f bs ≡ second (240 + 256 * (f - 241)) bs
-formed_2 f bs h k = cond-false _ _ _ (lt-leb f 240 h) ∙ cond-true _ _ _ (le-leb f 248 k)
+two_bytes_back : (n : ℕ) (rest : List ℕ) → 240 < n → n ≤ 2287
+    → formed (241 + (n - 240) / 256) ((n - 240) % 256 ∷ rest) ≡ Some (n, rest)
+unfolding second
+two_bytes_back n rest h k =
+    let q = (n - 240) / 256 in
+    let less : n - 240 < 2048 = sub-lt_left_of_lt-add (le_of_lt h) (lt_of_le_of_lt k (ltb-true 2287 2288 refl)) in
+    let few : q ≤ 7 = le-pred_of_lt ((div-lt_iff_lt-mul {y = 8} (zero-lt-suc 255)).1 less) in
+    cond-false _ _ _ (lt-leb (241 + q) 240 (le-add_right 241 q))
+    ∙ cond-true _ _ _ (le-leb (241 + q) 248 (add-le-add (le_refl 241) few))
+    ∙ ap (λ m. Some (m, rest)) (ap (λ m. 240 + 256 * m + (n - 240) % 256) (add-sub_cancel_left 241 q) ∙ over_back 240 n (le_of_lt h))
 
-formed_4 : (f : ℕ) (bs : List ℕ) → 249 < f → formed f bs ≡ field (f - 247) bs
-formed_4 f bs h =
-    cond-false _ _ _ (lt-leb f 240 (omega arith)) ∙ cond-false _ _ _ (lt-leb f 248 (omega arith)) ∙ cond-false _ _ _ (ne_eqb f 249 (λ e. omega arith))
-
--- the width holds the number, and lies from 3 to 8
-pub record Wide (n w : ℕ) : Type 0 where
-  pub low : 3 ≤ w
-  pub high : w ≤ 8
-  pub holds : n < 2 ^ (8 * w)
-
-pub width-wide : (n : ℕ) → n < 2 ^ 64 → Wide n (width n)
-width-wide n h =
-    cond_both _ _ _ (Wide n) (λ e. record { low = omega arith; high = omega arith; holds = ltb-true n (2 ^ 24) e }) λ _.
-    cond_both _ _ _ (Wide n) (λ e. record { low = omega arith; high = omega arith; holds = ltb-true n (2 ^ 32) e }) λ _.
-    cond_both _ _ _ (Wide n) (λ e. record { low = omega arith; high = omega arith; holds = ltb-true n (2 ^ 40) e }) λ _.
-    cond_both _ _ _ (Wide n) (λ e. record { low = omega arith; high = omega arith; holds = ltb-true n (2 ^ 48) e }) λ _.
-    cond_both _ _ _ (Wide n) (λ e. record { low = omega arith; high = omega arith; holds = ltb-true n (2 ^ 56) e }) λ _.
-    record { low = omega arith; high = omega arith; holds = h }
+-- the form of a number above 67,823, whose width is the least of 3 to 8 that holds it
+long_back : (n : ℕ) (rest : List ℕ) → n < 2 ^ 64 → number ((247 + width n) ∷ (octets (width n) n ++ rest)) ≡ Some (n, rest)
+unfolding number
+long_back n rest h =
+    let P : ℕ → Type 0 = λ w. number ((247 + w) ∷ (octets w n ++ rest)) ≡ Some (n, rest) in
+    cond_both _ _ _ P (λ e. field_back 3 n rest (ltb-true n (2 ^ 24) e)) λ _.
+    cond_both _ _ _ P (λ e. field_back 4 n rest (ltb-true n (2 ^ 32) e)) λ _.
+    cond_both _ _ _ P (λ e. field_back 5 n rest (ltb-true n (2 ^ 40) e)) λ _.
+    cond_both _ _ _ P (λ e. field_back 6 n rest (ltb-true n (2 ^ 48) e)) λ _.
+    cond_both _ _ _ P (λ e. field_back 7 n rest (ltb-true n (2 ^ 56) e)) λ _. field_back 8 n rest h
 
 pub number_back : (n : ℕ) (rest : List ℕ) → n < 2 ^ 64 → number (shortest n ++ rest) ≡ Some (n, rest)
-unfolding shortest number second
+unfolding shortest number
 number_back n rest h =
     let P : List ℕ → Type 0 = λ ds. number (ds ++ rest) ≡ Some (n, rest) in
-    cond_both (nat_le n 240) _ _ P (λ e. formed_1 n rest (leb-true n 240 e)) λ e1.
-    cond_both (nat_le n 2287) _ _ P
-    (λ e. let a = leb-false n 240 e1 in let b = leb-true n 2287 e in
-    formed_2 (241 + (n - 240) / 256) _ (omega arith) (omega arith) ∙ ap (λ m. Some (m, rest)) (omega arith)) λ e2.
-    cond_both (nat_le n 67823) _ _ P
-    (λ e. let a = leb-false n 2287 e2 in let b = leb-true n 67823 e in ap (λ m. Some (m, rest)) (omega arith)) λ e3.
-    let w = width-wide n h in
-    formed_4 (247 + width n) _ (omega (arith, w.low)) ∙ ap (λ k. field k (octets (width n) n ++ rest)) (omega arith) ∙ field_back (width n) n rest w.holds
+    cond_both (nat_le n 240) _ _ P (λ e. cond-true _ _ _ e) λ e1.
+    cond_both (nat_le n 2287) _ _ P (λ e. two_bytes_back n rest (leb-false n 240 e1) (leb-true n 2287 e)) λ e2.
+    cond_both (nat_le n 67823) _ _ P (λ e. ap (λ m. Some (m, rest)) (over_back 2288 n (leb-false n 2287 e2))) λ e3.
+    long_back n rest h
+
+-- ---- words
+pub word_back : (w : Word) (rest : List ℕ) → w.bits < 2 ^ 64 → read_word (eight w.bits ++ rest) ≡ Some (w, rest)
+word_back w rest v = ap (λ o. next o λ n bs. Some (record { bits = n }, bs)) (field_back 8 w.bits rest v)
 
 -- ---- message headers
 pub kind_back : (k : MessageKind) → kind_of (kind_number k) ≡ k
@@ -130,7 +138,7 @@ pub masked_back : (n : ℕ) → masked (masked n) ≡ n
 masked_back n = xor_assoc n _ _ ∙ ap (bit_xor n) (xor_self 0x7FFF_FFFF_FFFF_FFFF) ∙ xor_zero_r n
 
 pub masked-lt : (n : ℕ) → n < 2 ^ 64 → masked n < 2 ^ 64
-masked-lt n h = xor_lt 64 n 0x7FFF_FFFF_FFFF_FFFF h (omega arith)
+masked-lt n h = xor_lt 64 n 0x7FFF_FFFF_FFFF_FFFF h (ltb-true 0x7FFF_FFFF_FFFF_FFFF (2 ^ 64) refl)
 
 segment_after_lsn : ℕ → ℕ → List ℕ → Option (SegmentHeader × List ℕ)
 segment_after_lsn crc lsn bs =

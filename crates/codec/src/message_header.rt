@@ -60,7 +60,7 @@ impl Serialize for MessageHeader {
 
     ghost reads = { read_message_header };
 
-    ghost back = { λ x rest v. header_back x rest v };
+    ghost back = { header_back };
 
     fn serialized_size(&self) -> usize
         ensures size { result ≡ length (message_header self.now) }

@@ -64,7 +64,7 @@ impl Serialize for SegmentHeader {
 
     ghost reads = { read_segment_header };
 
-    ghost back = { λ x rest v. segment_back x rest v };
+    ghost back = { segment_back };
 
     fn serialized_size(&self) -> usize {
         SEG_HEADER_LEN

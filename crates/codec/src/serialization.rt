@@ -74,7 +74,7 @@ impl Serialize for u32 {
 
     ghost reads = { field 4 };
 
-    ghost back = { λ x rest v. field_back 4 x rest v };
+    ghost back = { field_back 4 };
 
     fn serialized_size(&self) -> usize {
         4
@@ -103,7 +103,7 @@ impl Serialize for u64 {
 
     ghost reads = { number };
 
-    ghost back = { λ x rest v. number_back x rest v };
+    ghost back = { number_back };
 
     fn serialized_size(&self) -> usize {
         form_len(*self)

@@ -1,10 +1,9 @@
 // Eight-byte fields: an LSN, a stable mark, a manifest's LSN, a blob pointer.
 ghost use Rattle.std.specs.Prelude.{◌≡◌, ◌^◌, ◌<◌, if◌then◌else◌, Some, None};
-ghost use Rattle.std.proofs.Common.{ap, to_z};
+ghost use Rattle.std.proofs.Common.{to_z};
 ghost use Rattle.std.specs.Int.{w64};
 ghost use Rattle.codec.specs.Fields.{below, eight, read_word};
-ghost use Rattle.codec.specs.Serial.{next};
-ghost use Rattle.codec.specs.Laws.{field_back};
+ghost use Rattle.codec.specs.Laws.{word_back};
 
 use crate::little::{get_field, has_room, put_octets};
 use crate::{CodecError, Serialize};
@@ -45,7 +44,7 @@ impl Serialize for Word {
 
     ghost reads = { read_word };
 
-    ghost back = { λ x rest v. ap (λ o. next o λ n bs. Some (record { bits = n }, bs)) (field_back 8 x.bits rest v) };
+    ghost back = { word_back };
 
     fn serialized_size(&self) -> usize {
         8
