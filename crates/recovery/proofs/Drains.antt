@@ -1,5 +1,5 @@
 -- A walk to its end whose records are dropped. Assumes nothing.
-use Rattle.std.proofs.Common.{◌≡◌, ℕ, ◌<◌, List, [], ◌∷◌, length, Some, None, Ok, Err, Option, Result, sym, refl, ap, ◌∙◌, subst, arith}
+use Rattle.std.proofs.Common.{◌≡◌, ℕ, ◌<◌, List, [], ◌∷◌, length, Ok, Err, Option, sym, refl, ap, ◌∙◌, subst, arith}
 use Rattle.blobs.specs.declared.note.Note.{Note}
 use Rattle.messages.specs.declared.log_read.Record.{Record}
 use Rattle.refusals.specs.declared.refusal.Refusal.{Refusal}
@@ -13,13 +13,14 @@ use Rattle.recovery.proofs.States.{same_self, same_same}
 
 module _ {R B : Type 0} where
   -- what `next` ensures, where it speaks of what the walk refers to now
-  pub next-at : (notes notes2 : ℕ → Option Note) (dev dev2 : List ℕ) (order order2 : List Segment) (body body2 : ℕ) (b : List ℕ) (v w : LogIter R B) (r : Step) → notes2 ≡ notes → dev2 ≡ dev → order2 ≡ order → body2 ≡ body
-      → Next notes2 dev2 order2 b body2 v w r → Next notes dev order b body v w r
-  next-at notes notes2 dev dev2 order order2 body body2 b v w r n d o m t =
-      let t1 = subst (λ (x : ℕ → Option Note). Next x dev2 order2 b body2 v w r) n t in
-      let t2 = subst (λ (x : List ℕ). Next notes x order2 b body2 v w r) d t1 in
-      let t3 = subst (λ (x : List Segment). Next notes dev x b body2 v w r) o t2 in
-      subst (λ x. Next notes dev order b x v w r) m t3
+  pub next-at : (notes notes2 : ℕ → Option Note) (dev dev2 : List ℕ) (order order2 : List Segment) (body body2 : ℕ) (b : List ℕ) (v w : LogIter R B) (r r2 : Step) → notes2 ≡ notes → dev2 ≡ dev → order2 ≡ order → body2 ≡ body → r2 ≡ r
+      → Next notes2 dev2 order2 b body2 v w r2 → Next notes dev order b body v w r
+  next-at notes notes2 dev dev2 order order2 body body2 b v w r r2 n d o m e t =
+      let t1 = subst (λ (x : ℕ → Option Note). Next x dev2 order2 b body2 v w r2) n t in
+      let t2 = subst (λ (x : List ℕ). Next notes x order2 b body2 v w r2) d t1 in
+      let t3 = subst (λ (x : List Segment). Next notes dev x b body2 v w r2) o t2 in
+      let t4 = subst (λ x. Next notes dev order b x v w r2) m t3 in
+      subst (λ (x : Step). Next notes dev order b body v w x) e t4
 
   module _ (notes : ℕ → Option Note) (dev : List ℕ) (order : List Segment) where
     pub yielded : (b : List ℕ) (body : ℕ) (v w : LogIter R B) (x : Record) → Next notes dev order b body v w (Yield x) → rest_of notes dev order v ≡ more (x ∷ []) (rest_of notes dev order w)

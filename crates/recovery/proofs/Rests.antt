@@ -1,34 +1,14 @@
 -- One turn of a walk, by what is still to do. Assumes nothing.
-use Rattle.std.proofs.Common.{◌≡◌, ℕ, zero, suc, ◌+◌, ◌-◌, ◌*◌, ◌/◌, ◌%◌, ◌<◌, ◌≤◌, Bool, true, false, cond, ◌&&◌, eqb, leb, List, [], ◌∷◌, ◌++◌, length, get_or, take, drop, Some, None, Ok, Err, Option, Result, sym, refl, ap, ◌∙◌, subst, ap₂, div-add-mod', arith}
-use lib.Arith.{digits_mod}
-use Rattle.std.proofs.lemmas.List.{drop_more, drop_all}
-use Rattle.std.proofs.lemmas.Bool.{cond_both}
-use Rattle.std.proofs.lemmas.Bool.Decides.{nat_tests}
+use Rattle.std.proofs.Common.{◌≡◌, ℕ, ◌+◌, ◌%◌, Bool, true, false, List, [], ◌∷◌, Some, None, Option, sym, refl, ap, ◌∙◌, arith}
 use Rattle.blobs.specs.declared.note.Note.{Note}
-use Rattle.codec.specs.declared.word.Word.{Word}
-use Rattle.layout.specs.Kinds.{kind_number, meant}
-use Rattle.layout.specs.declared.kind.LogKind.{LogKind}
-use Rattle.layout.specs.declared.kind.Meaning.{Meaning}
-use Rattle.layout.specs.declared.kind.Meaning.TheVariants.{Corrupted as NoMessage, Canceled as Passed, Cap as Padding, BatchManifest as Manifest, Record as Records}
-use Rattle.layout.specs.declared.kind.Storage.TheVariants.{Inline as InMessage, Blob as InFile}
-use Rattle.messages.proofs.Spans.{Span, raw_span}
-use Rattle.messages.specs.Raw.{is_entry, raw_at}
-use Rattle.messages.specs.Told.{record_of, told, understood, manifest_told, blob_told, note_told}
-use Rattle.messages.specs.declared.disk_pointer.DiskPtr.TheVariants.{Blob}
-use Rattle.messages.specs.declared.log_read.Found.{Found}
-use Rattle.messages.specs.declared.log_read.LogRead.{LogRead}
-use Rattle.messages.specs.declared.log_read.LogRead.TheVariants.{Record as Yielded}
-use Rattle.messages.specs.declared.log_read.Raw.{Raw}
-use Rattle.messages.specs.declared.log_read.Raw.TheVariants.{Whole, Corrupted as RawCorrupted, Short as RawShort}
+use Rattle.messages.specs.Raw.{is_entry}
 use Rattle.messages.specs.declared.log_read.Record.{Record}
 use Rattle.refusals.specs.declared.refusal.Refusal.{Refusal}
-use Rattle.refusals.specs.declared.refusal.Refusal.TheVariants.{Blob as BadBlob}
 use Rattle.scan.specs.Order.{Segment}
 use Rattle.walks.proofs.Turns.{more_nil, settled-cons, in_out, in_past, in_step}
 use Rattle.recovery.specs.State.{told_by, rest}
 use Rattle.walks.specs.Walk.{past, turn_of, released, stopped, follow, Walked, more, settled, read_in, in_segment, walk}
-use Rattle.recovery.specs.declared.iterator.Step.{Step}
-use Rattle.recovery.specs.declared.iterator.Step.TheVariants.{Yield as Found-one, More, End, Fail as Failing}
+use Rattle.recovery.specs.declared.iterator.Step.TheVariants.{Yield as Found-one, End, Fail as Failing}
 use Rattle.walks.specs.declared.turn.Turn.{Turn}
 use Rattle.walks.specs.declared.turn.Turn.TheVariants.{Yield, Pass, Release, Stop, Fail}
 

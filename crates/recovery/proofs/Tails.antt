@@ -1,13 +1,13 @@
 -- The tail of a log, segment by segment. Assumes nothing.
-use Rattle.std.proofs.Common.{◌≡◌, ℕ, ◌+◌, ◌-◌, ◌^◌, ◌<◌, ◌≤◌, Bool, true, false, eqb, ltb, List, [], ◌∷◌, ◌++◌, length, get_or, take, drop, Some, None, Option, sym, refl, ap, ◌∙◌, subst, ap₂, ⊎_elim, append_assoc, arith, length-take}
+use Rattle.std.proofs.Common.{◌≡◌, ℕ, ◌+◌, ◌^◌, ◌<◌, ◌≤◌, Bool, true, false, ltb, List, [], ◌∷◌, ◌++◌, length, get_or, take, drop, Some, None, sym, refl, ap, ◌∙◌, subst, ap₂, ⊎_elim, append_assoc, arith, length-take}
 use Rattle.std.proofs.lemmas.List.{drop_more, drop_all, take_more, drop-append-le, append-nil}
 use Rattle.std.proofs.lemmas.Option.{slice_get-get_or, slice_get_past}
-use Rattle.std.proofs.lemmas.Bool.{lt-ltb, le-ltb, eq-eqb, ne_eqb, cases_lt}
+use Rattle.std.proofs.lemmas.Bool.{lt-ltb, le-ltb, ne_eqb, cases_lt}
 use Rattle.std.proofs.lemmas.Bool.Decides.{nat_tests}
 use Rattle.std.specs.List.{slice_get}
 use Rattle.scan.specs.Order.{Segment}
 use Rattle.recovery.specs.State.{Small}
-use Rattle.walks.specs.Walks.{since, Tail, longer, tail_from, tail}
+use Rattle.walks.specs.Walks.{since, Tail, longer, tail_from}
 
 -- ---- an entry of the order
 pub nth_none : (os : List Segment) (i : ℕ) → None ≡ slice_get os i → length os ≤ i

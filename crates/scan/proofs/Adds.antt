@@ -1,5 +1,5 @@
 -- A used segment entered into the order, exit by exit. Assumes nothing.
-use Rattle.std.proofs.Common.{◌≡◌, ℕ, true, false, List, is_some, Ok, Err, Option, Result, sym, refl, ap, arith}
+use Rattle.std.proofs.Common.{◌≡◌, ℕ, true, false, List, is_some, Ok, Err, Result, sym, ap, arith}
 use Rattle.refusals.specs.declared.refusal.Refusal.{Refusal}
 use Rattle.refusals.specs.declared.refusal.Refusal.TheVariants.{Header, SameLsn}
 use Rattle.tables.specs.Entries.{find, put}

@@ -1,12 +1,11 @@
 -- The fields of twenty bytes that are read as a header. Assumes nothing.
-use Rattle.std.proofs.Common.{◌≡◌, ℕ, ◌+◌, ◌-◌, ◌<◌, Bool, true, false, cond, not, ◌&&◌, leb, List, length, take, drop, Some, None, Option, sym, refl, ap, ◌∙◌, arith, length-drop}
+use Rattle.std.proofs.Common.{◌≡◌, ℕ, ◌<◌, Bool, true, false, cond, not, ◌&&◌, leb, List, length, take, drop, Some, None, Option, sym, refl, ap, ◌∙◌, arith, length-drop}
 use Rattle.std.proofs.lemmas.List.{drop-drop}
 use Rattle.std.proofs.lemmas.Bool.{cond-true, cond-false, le-leb}
 use Rattle.std.proofs.lemmas.Bool.Decides.{nat_tests}
 use Rattle.codec.specs.Fields.{below}
 use Rattle.codec.specs.Numbers.{little, field}
-use Rattle.codec.specs.Segments.{read_segment_header, masked, checks}
-use Rattle.codec.specs.Serial.{next}
+use Rattle.codec.specs.Segments.{read_segment_header, checks}
 use Rattle.codec.specs.declared.segment.SegmentHeader.{SegmentHeader}
 use Rattle.codec.proofs.Octets.{some_is}
 use Rattle.scan.specs.Headers.{head_lsn, head_mark, used, weight}

@@ -1,6 +1,6 @@
 -- The scan, header by header. Assumes nothing.
-use Rattle.std.proofs.Common.{◌≡◌, ℕ, zero, suc, ◌+◌, ◌-◌, ◌*◌, ◌/◌, ◌%◌, ◌<◌, ◌≤◌, max, Bool, true, false, cond, ◌&&◌, eqb, ltb, leb, ◌⊎◌, List, [], ◌∷◌, length, is_some, Some, None, Ok, Err, Option, Result, sym, refl, ap, ◌∙◌, subst, ap₂, inl, inr, ⊎_elim, mul-le-mul_right, div-add-mod', arith}
-use Rattle.std.proofs.lemmas.Bool.{cond-true, cond-false, cond_both, cases_lt, cases_Bool, leb-true, le-leb}
+use Rattle.std.proofs.Common.{◌≡◌, ℕ, suc, ◌+◌, ◌*◌, ◌/◌, ◌%◌, ◌<◌, ◌≤◌, max, Bool, true, false, cond, ◌&&◌, eqb, ltb, leb, ◌⊎◌, List, [], ◌∷◌, length, is_some, Some, None, Ok, Option, sym, refl, ap, ◌∙◌, subst, ap₂, inl, inr, ⊎_elim, mul-le-mul_right, div-add-mod', arith}
+use Rattle.std.proofs.lemmas.Bool.{cond_both, cases_lt, cases_Bool, leb-true, le-leb}
 use Rattle.std.proofs.lemmas.Bool.Decides.{nat_tests}
 use Rattle.device.specs.Reads.{inside}
 use Rattle.layout.specs.Sizes.{is_segment_size, counted}
@@ -9,7 +9,7 @@ use Rattle.refusals.specs.declared.refusal.Refusal.{Refusal}
 use Rattle.refusals.specs.declared.refusal.Refusal.TheVariants.{Header, SameLsn}
 use Rattle.tables.specs.Entries.{find, put}
 use Rattle.scan.specs.Headers.{head_at, head_lsn, head_mark, used, odd, weight}
-use Rattle.scan.specs.Order.{Segment, Gathered, faulty, sound, unless, added, entered, enter, gather, top_mark}
+use Rattle.scan.specs.Order.{Segment, Gathered, sound, unless, added, entered, enter, gather, top_mark}
 use Rattle.scan.specs.Offers.{mark_of}
 
 -- ---- counted headers lie inside

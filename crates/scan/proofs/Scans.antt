@@ -1,11 +1,11 @@
 -- The whole scan, exit by exit. Assumes nothing.
-use Rattle.std.proofs.Common.{◌≡◌, ℕ, zero, suc, ◌+◌, ◌-◌, ◌*◌, ◌<◌, ◌≤◌, Bool, true, false, cond, ltb, List, [], length, Some, None, Ok, Err, Option, Result, sym, refl, ap, ◌∙◌, ap₂, add-one, arith}
+use Rattle.std.proofs.Common.{◌≡◌, ℕ, zero, suc, ◌+◌, ◌-◌, ◌*◌, ◌<◌, ◌≤◌, true, cond, List, [], length, Some, None, Ok, Err, Option, Result, sym, refl, ap, ◌∙◌, arith}
 use Rattle.std.proofs.lemmas.Bool.{cond-true, cond-false, lt-ltb, le-ltb}
 use Rattle.layout.specs.Sizes.{is_segment_size, counted}
 use Rattle.refusals.specs.declared.refusal.Refusal.{Refusal}
 use Rattle.refusals.specs.declared.refusal.Refusal.TheVariants.{Size, Buffer}
 use Rattle.scan.specs.Headers.{head_at}
-use Rattle.scan.specs.Order.{Segment, Gathered, faulty, sound, unless, entered, enter, gather, top_mark, gathered, scanned}
+use Rattle.scan.specs.Order.{Segment, Gathered, faulty, sound, unless, entered, enter, gather, top_mark, scanned}
 use Rattle.scan.specs.Offers.{mark_of}
 use Rattle.scan.proofs.Visits.{none_used, some_used, unless_err}
 use Rattle.scan.proofs.Gathers.{Scanning, next_is}

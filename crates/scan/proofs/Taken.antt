@@ -1,5 +1,5 @@
 -- What is known of the segments that a scan found: each is a used header in a slot of its own, and their LSNs rise. Assumes nothing.
-use Rattle.std.proofs.Common.{◌≡◌, ℕ, zero, suc, ◌+◌, ◌-◌, ◌*◌, ◌/◌, ◌%◌, ◌^◌, ◌<◌, ◌≤◌, Bool, true, false, cond, not, ◌&&◌, ◌||◌, eqb, ltb, leb, ◌⊎◌, List, [], ◌∷◌, length, get_or, is_some, Some, None, Option, sym, refl, ap, ◌∙◌, subst, inl, inr, ⊎_elim, mul-le-mul_right, arith}
+use Rattle.std.proofs.Common.{◌≡◌, ℕ, zero, suc, ◌+◌, ◌*◌, ◌/◌, ◌%◌, ◌^◌, ◌<◌, ◌≤◌, Bool, true, false, cond, eqb, ltb, List, [], ◌∷◌, Some, None, Option, sym, refl, ap, ◌∙◌, subst, ⊎_elim, mul-le-mul_right, arith}
 use native.Mathlib.Nat.{mul-mod_left, div-mul_cancel, dvd_of_mod-eq-zero}
 use Rattle.std.proofs.ByRecursion.{All-weaker}
 use Rattle.std.proofs.lemmas.Bool.{cond_both, cases_lt}
@@ -8,11 +8,11 @@ use Rattle.std.specs.List.{AllByRecursion as All}
 use Rattle.layout.proofs.Powers.{top_multiple}
 use Rattle.layout.specs.Sizes.{is_segment_size}
 use Rattle.refusals.specs.declared.refusal.Refusal.{Refusal}
-use Rattle.refusals.specs.declared.refusal.Refusal.TheVariants.{Header, SameLsn}
+use Rattle.refusals.specs.declared.refusal.Refusal.TheVariants.{Header}
 use Rattle.tables.proofs.Puts.{rising-put}
-use Rattle.tables.specs.Entries.{rising, find, put}
+use Rattle.tables.specs.Entries.{rising, put}
 use Rattle.scan.specs.Headers.{head_at, head_lsn, head_mark, used, odd, weight}
-use Rattle.scan.specs.Order.{Segment, Gathered, faulty, sound, added, entered, enter, gather}
+use Rattle.scan.specs.Order.{Segment, Gathered, sound, added, entered, enter, gather}
 use Rattle.scan.proofs.Gathers.{added_none}
 
 -- a segment of the first n slots

@@ -1,7 +1,6 @@
 -- One turn of a walk, over segments and numbers. Assumes nothing.
-use Rattle.std.proofs.Common.{◌≡◌, ℕ, zero, suc, ◌+◌, ◌-◌, ◌*◌, ◌/◌, ◌%◌, ◌<◌, ◌≤◌, Bool, true, false, cond, ◌&&◌, eqb, leb, List, [], ◌∷◌, ◌++◌, length, get_or, take, drop, Some, None, Ok, Err, Option, Result, sym, refl, ap, ◌∙◌, subst, ap₂, div-add-mod', arith}
+use Rattle.std.proofs.Common.{◌≡◌, ℕ, zero, suc, ◌+◌, ◌*◌, ◌/◌, ◌%◌, ◌<◌, ◌≤◌, Bool, true, false, ◌&&◌, eqb, List, [], ◌∷◌, Some, None, Ok, Err, Option, sym, refl, ap, ◌∙◌, subst, div-add-mod', arith}
 use lib.Arith.{digits_mod}
-use Rattle.std.proofs.lemmas.List.{drop_more, drop_all}
 use Rattle.std.proofs.lemmas.Bool.{cond_both}
 use Rattle.std.proofs.lemmas.Bool.Decides.{nat_tests}
 use Rattle.blobs.specs.declared.note.Note.{Note}
@@ -16,15 +15,13 @@ use Rattle.messages.specs.Raw.{is_entry, raw_at}
 use Rattle.messages.specs.Told.{record_of, told, understood, manifest_told, blob_told, note_told}
 use Rattle.messages.specs.declared.disk_pointer.DiskPtr.TheVariants.{Blob}
 use Rattle.messages.specs.declared.log_read.Found.{Found}
-use Rattle.messages.specs.declared.log_read.LogRead.{LogRead}
 use Rattle.messages.specs.declared.log_read.LogRead.TheVariants.{Record as Yielded}
 use Rattle.messages.specs.declared.log_read.Raw.{Raw}
 use Rattle.messages.specs.declared.log_read.Raw.TheVariants.{Whole, Corrupted as RawCorrupted, Short as RawShort}
 use Rattle.messages.specs.declared.log_read.Record.{Record}
-use Rattle.refusals.specs.declared.refusal.Refusal.{Refusal}
 use Rattle.refusals.specs.declared.refusal.Refusal.TheVariants.{Blob as BadBlob}
 use Rattle.scan.specs.Order.{Segment}
-use Rattle.walks.specs.Walk.{past, bounds, turn_of, Exit, released, stopped, failed, follow, Walked, more, settled, segment_bytes, read_in, in_segment, walk}
+use Rattle.walks.specs.Walk.{past, bounds, turn_of, Exit, released, stopped, failed, follow, Walked, more, settled, segment_bytes, read_in, in_segment}
 use Rattle.walks.specs.declared.turn.Turn.{Turn}
 use Rattle.walks.specs.declared.turn.Turn.TheVariants.{Yield, Pass, Release, Stop, Fail}
 

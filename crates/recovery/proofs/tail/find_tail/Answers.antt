@@ -1,6 +1,6 @@
 use Rattle.std.proofs.Common.{ℕ, ltb, length, take, drop, sym, ap, ◌∙◌}
 use Rattle.tables.specs.Views.{contents}
-use Rattle.walks.specs.Walks.{Tail, tail_from, tail}
+use Rattle.walks.specs.Walks.{tail_from, tail}
 use Rattle.recovery.proofs.tail.find_tail.Goals as goal
 
 pub returns : goal.returns

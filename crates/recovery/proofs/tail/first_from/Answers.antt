@@ -3,10 +3,10 @@ use Rattle.tables.specs.Views.{contents}
 use Rattle.recovery.proofs.Tails.{nth_none, since_more, since_found, since_end}
 use Rattle.recovery.proofs.tail.first_from.Goals as goal
 
-pub returns-in-default : goal.returns-in-default
-returns-in-default c =
+pub returns-in_default : goal.returns-in_default
+returns-in_default c =
     let os = contents c.args.order.now in
-    record { since = since_end c.args.start os c.loop-i.i c.loop-i.invariant.0 (nth_none os c.loop-i.i c.in-default.ensures); within = c.loop-i.invariant.1 }
+    record { since = since_end c.args.start os c.loop-i.i c.loop-i.invariant.0 (nth_none os c.loop-i.i c.in_default.ensures); within = c.loop-i.invariant.1 }
 
 pub returns-then-s-start : goal.returns-then-s-start
 returns-then-s-start c =

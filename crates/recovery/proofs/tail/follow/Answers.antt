@@ -16,9 +16,9 @@ loop-until-preserved c = following_more c.args.size c.args.start (contents c.arg
 pub returns-after-loop-until : goal.returns-after-loop-until
 returns-after-loop-until c = record { tail = following_end c.args.size c.args.start (contents c.args.order.now) c.args.from c.loop-until.until c.loop-until.absent c.loop-until.invariant (omega (arith, c.len-count.ensures)); from = refl; until = c.loop-until.invariant.ends }
 
-pub returns-in-default : goal.returns-in-default
-returns-in-default c =
-    record { tail = following_end c.args.size c.args.start (contents c.args.order.now) c.args.from c.loop-until.until c.loop-until.absent c.loop-until.invariant (nth_none (contents c.args.order.now) c.loop-until.until c.in-default.ensures); from = refl; until = c.loop-until.invariant.ends }
+pub returns-in_default : goal.returns-in_default
+returns-in_default c =
+    record { tail = following_end c.args.size c.args.start (contents c.args.order.now) c.args.from c.loop-until.until c.loop-until.absent c.loop-until.invariant (nth_none (contents c.args.order.now) c.loop-until.until c.in_default.ensures); from = refl; until = c.loop-until.invariant.ends }
 
 pub returns-then-s-absent : goal.returns-then-s-absent
 returns-then-s-absent c = record { tail = following-gap c.args.size c.args.start (contents c.args.order.now) c.args.from c.loop-until.until c.loop-until.absent c.loop-until.invariant c.in-Some.s c.in-Some.ensures c.if-s-absent.true; from = refl; until = c.loop-until.invariant.ends }

@@ -1,4 +1,4 @@
-use Rattle.std.proofs.Common.{is_some, sym, refl, ap, ◌∙◌, rules}
+use Rattle.std.proofs.Common.{is_some, sym, refl, ap, ◌∙◌}
 use Rattle.tables.specs.Views.{contents}
 use Rattle.scan.proofs.Adds.{add-odd, add_same, add-new}
 use Rattle.scan.proofs.header.add.Goals as goal

@@ -1,4 +1,4 @@
-use Rattle.std.proofs.Common.{sym, ap, ◌∙◌, arith, rules}
+use Rattle.std.proofs.Common.{sym, ap, ◌∙◌, arith}
 use Rattle.codec.specs.Fields.{below}
 use Rattle.codec.specs.declared.segment.SegmentHeader.{SegmentHeader}
 use Rattle.scan.specs.Headers.{weight}

@@ -8,9 +8,9 @@ pub returns-then-self : goal.returns-then-self
 returns-then-self g c =
     e-none (g.B.BlobSource.notes c.args.self.now.source.now) (g.R.ReadAt.bytes c.args.self.now.view.now) (contents c.args.self.now.order.now) c.args.segment.now c.args.room c.args.self.now c.requires.sane c.requires.none c.if-self.true
 
-pub returns-in-default : goal.returns-in-default
-returns-in-default g c =
-    absurd (e-there (g.B.BlobSource.notes c.args.self.now.source.now) (g.R.ReadAt.bytes c.args.self.now.view.now) (contents c.args.self.now.order.now) c.args.segment.now c.args.room c.args.self.now c.requires.sane c.requires.none c.if-self.false (sym c.in-default.ensures))
+pub returns-in_default : goal.returns-in_default
+returns-in_default g c =
+    absurd (e-there (g.B.BlobSource.notes c.args.self.now.source.now) (g.R.ReadAt.bytes c.args.self.now.view.now) (contents c.args.self.now.order.now) c.args.segment.now c.args.room c.args.self.now c.requires.sane c.requires.none c.if-self.false (sym c.in_default.ensures))
 
 pub returns-then-past : goal.returns-then-past
 returns-then-past g c =

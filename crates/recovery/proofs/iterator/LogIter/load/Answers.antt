@@ -1,4 +1,4 @@
-use Rattle.std.proofs.Common.{◌≡◌, ◌-◌, ◌≤◌, length, take, drop, refl, ◌∙◌, arith, length-append, length-take}
+use Rattle.std.proofs.Common.{◌≡◌, ◌-◌, length, take, drop, refl, ◌∙◌, arith, length-append, length-take}
 use Rattle.recovery.proofs.Loads.{loaded, loaded_none, loaded-within}
 use Rattle.recovery.proofs.iterator.LogIter.load.Goals as goal
 
