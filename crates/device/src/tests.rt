@@ -71,7 +71,7 @@ fn sizes(rt: HostRuntime) -> Result<(), Fail> {
     }
     for size in [256, 512, 1_048_576] {
         assert!(rt; Image::from_bytes(rt.alloc(), size, 3, b"abcd").is_err());
-        assert!(rt; Image::from_bytes(rt.alloc(), size, 4, b"abcd")?.bytes() == b"abcd");
+        assert!(rt; Image::from_bytes(rt.alloc(), size, 4, b"abcd")?.bytes() == b"abcd".as_slice());
     }
     Ok(())
 }
