@@ -7,13 +7,13 @@ rounds=${1:-2000}
 out=target/bench
 mkdir -p "$out"
 
-rt check crc_bench >"$out/rt.log" 2>&1 || { cat "$out/rt.log"; exit 1; }
+(cd crates/crc_bench && rt run) >"$out/rt.log" 2>&1 || { cat "$out/rt.log"; exit 1; }
 rustc -O -o "$out/plain_crc" bench/plain_crc.rs
 head -c 1048576 /dev/urandom >"$out/input"
 
 # each program prints "CHECKSUM RATE MB/s"
 plain=$("$out/plain_crc" "$out/input" "$rounds")
-proved=$(target/bin/crc_bench "$out/input" "$rounds")
+proved=$(crates/crc_bench/out/crc_bench "$out/input" "$rounds")
 echo "plain table, rustc -O:  $plain"
 echo "proved, eight tables:   $proved"
 

@@ -1,6 +1,6 @@
 -- Files in a bank (docs/RECOVERY.md, "Blob sources"). Assumes nothing.
 --   cut bytes e         the bytes of an extent
---   note_at bytes e      what the file there says; damaged if it is not whole among the bytes
+--   note_at bytes e     what the file there says; damaged if it is not whole among the bytes
 --   banked bytes es p   a bank's reply
 --   Files               files with their pointers, the newest first
 --   Holds, Knows        a bank has these files; the entries of a register are what they say

@@ -1,5 +1,5 @@
 -- Blob files (docs/FORMAT.md, "Blob files"). Assumes nothing.
---   damaged      what is said of a file of fewer than 5 bytes
+--   damaged       what is said of a file of fewer than 5 bytes
 --   note_of file  the file's kind, and whether its checksum, 4 bytes, is that of kind byte and body behind it
 use Rattle.std.specs.Prelude.{ℕ, false, cond, List, length, Some, None, Option, ◌==◌, slice_index}
 use Rattle.checksum.specs.Crc.{crc32}

@@ -1,8 +1,8 @@
 -- Messages (docs/FORMAT.md, "Message"). Assumes nothing.
---   behind kind len segment page   a message header from its fifth byte
+--   behind kind len segment page    a message header from its fifth byte
 --   message_header h                its bytes, the stored checksum first
 --   message_sum header body         the checksum that is stored: body first, then the header from its fifth byte
---   message kind segment page body a whole message
+--   message kind segment page body  a whole message
 use Rattle.std.specs.Prelude.{ℕ, ◌^◌, ◌<◌, List, [], ◌∷◌, ◌++◌, length, drop, Some, Option}
 use Rattle.checksum.specs.Crc.{crc32}
 use Rattle.layout.specs.Kinds.{kind_number, kind_of}

@@ -2,7 +2,7 @@
 --   masked n             an 8-byte field of a segment header, as stored and back again
 --   complement c         a checksum as stored and back again
 --   fields lsn mark      what a segment header holds behind its checksum
---   segment_header h      its 20 bytes
+--   segment_header h     its 20 bytes
 --   checks bs            whether 20 bytes are a header
 use Rattle.std.specs.Prelude.{ℕ, ◌-◌, ◌^◌, ◌<◌, Bool, List, ◌++◌, take, drop, Some, Option, ◌==◌, bit_xor}
 use Rattle.checksum.specs.Crc.{crc32}

@@ -1,7 +1,7 @@
 -- Kinds of messages (docs/FORMAT.md, "Kinds"). Assumes nothing.
 --   kind_number k   the byte of a kind
 --   kind_of b       the kind of a byte: no message at 0 and above 11
---   meant k        what a kind means to a reader of the log
+--   meant k         what a kind means to a reader of the log
 use Rattle.std.specs.Prelude.{ℕ, cond, ◌==◌}
 use Rattle.layout.specs.declared.kind.MessageKind.{MessageKind}
 use Rattle.layout.specs.declared.kind.MessageKind.TheVariants.{Corrupted, Canceled, Cap, BatchManifest, Free, Counter, InlineMeta, BlobMeta, InlineNode, BlobNode, InlineLink, BlobLink}

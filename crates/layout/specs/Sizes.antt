@@ -1,6 +1,6 @@
 -- Sizes and counts of segments (docs/FORMAT.md, "Counted segments" and "Limits"). Assumes nothing.
 --   is_segment_size n      the sizes that a segment may have
---   counted n size       how many segments a log of n bytes has
+--   counted n size         how many segments a log of n bytes has
 use Rattle.std.specs.Prelude.{ℕ, ◌+◌, ◌/◌, ◌%◌, Bool, cond, ◌&&◌, ◌==◌, count_ones, nat_le}
 
 -- a power of two, which is a number with a single bit set, from 256 to 1,048,576

@@ -1,11 +1,11 @@
 -- The bytes of a message, judged before its kind is looked at (docs/RECOVERY.md, "Reading a message"). Assumes nothing.
---   is_entry size p        a message may begin at the progress p
+--   is_entry size p       a message may begin at the progress p
 --   ahead bytes off       what a view has from an offset on, with zeros past its end
 --   reached have hl n     the body is in the 128 bytes read ahead, or the view has it
 --   decided ..            by checksum and segment number
 --   judged ..             by length and kind, then by what there is, then decided
---   raw_at ..              the message at a place of a view
---   body_read ..           how many bytes of body were read besides the 128
+--   raw_at ..             the message at a place of a view
+--   body_read ..          how many bytes of body were read besides the 128
 use Rattle.std.specs.Prelude.{ℕ, ◌+◌, ◌-◌, ◌%◌, Bool, cond, ◌&&◌, ◌||◌, List, ◌++◌, length, take, drop, replicate, Some, None, Option, ◌==◌, nat_le, nat_lt}
 use Rattle.layout.specs.Kinds.{kind_number}
 use Rattle.layout.specs.declared.kind.MessageKind.{MessageKind}

@@ -1,10 +1,10 @@
 -- What a message is to a reader of the log, by its kind and the blob source (docs/RECOVERY.md, "Reading a message"). Assumes nothing.
 --   record_of f kind lsn ptr     the record of a message
---   note_told, blob_told          a record of a blob kind, by what the source has for its pointer
+--   note_told, blob_told         a record of a blob kind, by what the source has for its pointer
 --   manifest_told                a manifest, by its body
---   told                        any message whose checksum and segment number are right
---   understood                  any read
---   Stands                      a written message in a view
+--   told                         any message whose checksum and segment number are right
+--   understood                   any read
+--   Stands                       a written message in a view
 --   message_read ..              the reply of a read, the caller's buffer and size checked first
 use Rattle.std.specs.Prelude.{◌≡◌, ℕ, ◌+◌, ◌/◌, ◌%◌, ◌^◌, ◌<◌, ◌≤◌, true, cond, ◌&&◌, List, ◌++◌, length, Some, None, Ok, Err, Option, Result, ◌==◌, nat_le}
 use Rattle.blobs.specs.declared.note.Note.{Note}

@@ -1,5 +1,5 @@
 -- Worked examples at size 256 (docs/RECOVERY.md, "Well-formed snapshots", "Coordinates" and "Examples"). Assumes nothing.
---   bare_snap n active   a snapshot without pages
+--   bare_snap n active  a snapshot without pages
 --   link                a link to page 5 at LSN 20
 --   Examples            jointly: which snapshots are well formed, a link without its page, coordinates
 use Rattle.std.specs.Prelude.{◌≡◌, ℕ, ◌^◌, true, false, [], ◌∷◌, Some, None, Ok, Option}

@@ -1,7 +1,7 @@
 -- What is replied of a snapshot, for any size (docs/RECOVERY.md, "Coordinates"). Assumes nothing.
 --   fits o               absent, or a number of 64 bits
 --   checked c            coordinates, refused where one does not fit
---   coords_reply size s   those of a snapshot, refused for a size that no segment has
+--   coords_reply size s  those of a snapshot, refused for a size that no segment has
 use Rattle.std.specs.Prelude.{ℕ, ◌^◌, Bool, true, cond, ◌&&◌, Some, None, Ok, Err, Option, Result, nat_lt}
 use Rattle.layout.specs.Sizes.{is_segment_size}
 use Rattle.refusals.specs.declared.refusal.Refusal.{Refusal}

@@ -1,7 +1,7 @@
 -- Pages as the two tables of a snapshot show them (docs/RECOVERY.md, "Memory of a recover"). Assumes nothing.
---   state_of p, states_of ps      a page's entry in the page table, and those of all
+--   state_of p, states_of ps    a page's entry in the page table, and those of all
 --   tagged i items              the fragments of page i
---   laid_out i ps                the fragments of the pages from page i on, page by page
+--   laid_out i ps               the fragments of the pages from page i on, page by page
 --   nested states fs            the pages that two tables show
 --   tidy i states fs            the fragments are those of the pages, page by page, and no more
 use Rattle.std.specs.Prelude.{ℕ, suc, Bool, true, false, ◌&&◌, List, [], ◌∷◌, ◌++◌, length, take, drop, ◌==◌, nat_le}

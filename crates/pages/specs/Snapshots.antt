@@ -1,10 +1,10 @@
 -- Snapshots (docs/RECOVERY.md, "Well-formed snapshots" and "Coordinates"). Assumes nothing.
 --   Snap                stable LSN, active segment and pages
 --   nothing             the snapshot of a log never recovered
---   snap_of s            what a snapshot in memory means
---   round_up size n      n, or the next multiple of the size
+--   snap_of s           what a snapshot in memory means
+--   round_up size n     n, or the next multiple of the size
 --   coords size s       where the log ends: place and LSN
---   well_formed size s   the rules that every snapshot given out keeps
+--   well_formed size s  the rules that every snapshot given out keeps
 --   formed size s       the same of a snapshot in memory, whose fragments are those of its pages
 use Rattle.std.specs.Prelude.{ℕ, ◌+◌, ◌-◌, ◌*◌, ◌/◌, ◌%◌, ◌^◌, Bool, true, false, ◌&&◌, List, [], ◌∷◌, Some, None, Option, ◌==◌, nat_le, nat_lt}
 use Rattle.pages.specs.declared.snapshot.Snapshot.{Snapshot}

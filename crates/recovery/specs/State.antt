@@ -1,7 +1,7 @@
 -- The state of a walk in the code: what is still to do, and what holds of it between turns. Assumes nothing.
 --   rest ..          what a walk has still to do: outside of a segment, or at a progress of one
---   told_by ..        what a turn says of what there was to do, where `w` is what is still to do
---   rest_of ..        `rest` by the fields of an iterator
+--   told_by ..       what a turn says of what there was to do, where `w` is what is still to do
+--   rest_of ..       `rest` by the fields of an iterator
 --   Sane             what holds between turns
 --   Turned           what a turn ensures
 --   Next             what a call of `next` ensures

@@ -1,9 +1,9 @@
 -- Segment headers on a device (docs/RECOVERY.md, "Scan" and "Tail"). Assumes nothing.
---   head_at dev place     the 20 bytes at a place
---   head_lsn h, head_mark h   LSN and stable mark, as in the bytes: from 2^63 on they are below zero
---   used low h           the header checks, and its LSN is neither below zero nor below `low`
---   weight mark          what a mark counts
---   odd size lsn mark    a used header that is a fault
+--   head_at dev place        the 20 bytes at a place
+--   head_lsn h, head_mark h  LSN and stable mark, as in the bytes: from 2^63 on they are below zero
+--   used low h               the header checks, and its LSN is neither below zero nor below `low`
+--   weight mark              what a mark counts
+--   odd size lsn mark        a used header that is a fault
 use Rattle.std.specs.Prelude.{ℕ, ◌%◌, ◌^◌, Bool, cond, not, ◌&&◌, ◌||◌, List, take, drop, ◌==◌, nat_le}
 use Rattle.codec.specs.Fields.{below}
 use Rattle.codec.specs.Numbers.{little}

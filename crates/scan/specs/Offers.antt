@@ -1,6 +1,6 @@
 -- What a header offers to a scan. Assumes nothing.
 --   offered low h  LSN and mark of a header that is used
---   mark_of low h   what a header's mark counts, where it is used
+--   mark_of low h  what a header's mark counts, where it is used
 use Rattle.std.specs.Prelude.{ℕ, cond, List, Some, None, Option}
 use Rattle.scan.specs.Headers.{head_lsn, head_mark, used, weight}
 

@@ -1,11 +1,11 @@
 -- The used segments of a device in the order of their LSNs (docs/RECOVERY.md, "Scan" and "Tail"). Assumes nothing.
---   Segment              an entry of the order: key LSN, value place
---   Gathered             the segments entered, and the fault that ended it, if any
---   unless fault x       what a step replies
---   enter ..             what the header at a place adds
---   gather size dev low n   the first n headers, in device order
---   top_mark dev low ss   the largest of `low` and the stable marks of the segments
---   scanned ..           what a scan with room for some entries finds
+--   Segment                an entry of the order: key LSN, value place
+--   Gathered               the segments entered, and the fault that ended it, if any
+--   unless fault x         what a step replies
+--   enter ..               what the header at a place adds
+--   gather size dev low n  the first n headers, in device order
+--   top_mark dev low ss    the largest of `low` and the stable marks of the segments
+--   scanned ..             what a scan with room for some entries finds
 use Rattle.std.specs.Prelude.{ℕ, zero, suc, ◌*◌, max, true, false, cond, List, [], ◌∷◌, length, is_some, Some, None, Ok, Err, Option, Result, nat_lt}
 use Rattle.layout.specs.Sizes.{is_segment_size, counted}
 use Rattle.refusals.specs.declared.refusal.Refusal.{Refusal}

@@ -2,7 +2,7 @@
 -- (docs/RECOVERY.md, "Steps of a recover", and docs/REFUSALS.md, "Order of checks"). Assumes nothing.
 --   Budget              how large the lent buffers and tables are
 --   checked tests       the first test that applies
---   at_first, at_last     the tests before the scan, and before the writes
+--   at_first, at_last   the tests before the scan, and before the writes
 --   recovered ..        the end of the recovery, or the refusal
 --   left ..             what it leaves of the device
 use Rattle.std.specs.Prelude.{ℕ, ◌+◌, ◌*◌, ◌/◌, Bool, true, false, not, ◌&&◌, ◌||◌, List, [], ◌∷◌, length, Some, None, Ok, Err, Option, Result, ◌==◌, nat_lt}

@@ -1,12 +1,12 @@
 -- A walk over segments in the order of their LSNs (docs/RECOVERY.md, "A walk"). Assumes nothing.
 --   past n limit            n is at the limit or above
 --   bounds w limit          a manifest's LSN is past the limit
---   turn_of limit last r     what a message that was read does to the walk
---   segment_bytes ..         a segment's bytes
---   read_in ..               the message at a progress of a held segment
+--   turn_of limit last r    what a message that was read does to the walk
+--   segment_bytes ..        a segment's bytes
+--   read_in ..              the message at a progress of a held segment
 --   Exit                    how a segment is left: let go or held at a progress, or by a fault there
 --   follow p t on           what a turn at the progress p leads to, where `on` walks on from a progress
---   in_segment ..            the walk in one segment from a progress on; `fuel` bounds its messages
+--   in_segment ..           the walk in one segment from a progress on; `fuel` bounds its messages
 --   Walked                  what a walk came to
 --   settled s ss on x       what follows a segment that was left by x, where `on` walks the segments behind it
 --   walk ..                 the walk over segments, from a current LSN

@@ -1,10 +1,10 @@
 -- The tail of a log and the two walks (docs/RECOVERY.md, "Tail" and "The two walks"). Assumes nothing.
---   since n ss           the segments from the LSN n on
---   Tail                 the segments of the tail, the first absent LSN, and whether there is a gap
---   tail_from size n ss   the tail that starts at n
---   start_of ..           where the tail starts
+--   since n ss             the segments from the LSN n on
+--   Tail                   the segments of the tail, the first absent LSN, and whether there is a gap
+--   tail_from size n ss    the tail that starts at n
+--   start_of ..            where the tail starts
 --   first_walk, last_walk  the two walks; the last is not made where the first met a fault
---   walks ..             both
+--   walks ..               both
 use Rattle.std.specs.Prelude.{ℕ, ◌+◌, ◌*◌, ◌/◌, Bool, true, false, cond, List, [], ◌∷◌, Some, None, Option, ◌==◌, nat_lt}
 use Rattle.blobs.specs.declared.note.Note.{Note}
 use Rattle.scan.specs.Order.{Segment, top_mark}
