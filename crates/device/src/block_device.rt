@@ -7,7 +7,7 @@ use crate::{DeviceError, ReadAt};
 
 // Bytes from the place 0 on that can be written. Block b is the places from b * block size on. A loose block is written at
 // no cost; the first write to any other makes it loose and takes a spare one.
-// Each method says that the first place is 0: a law of the trait would say it once, but a type with a lifetime can have none.
+// Each method says that the first place is 0.
 pub trait Device: ReadAt {
     ghost capacity: { Self → ℕ };
 

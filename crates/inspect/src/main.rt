@@ -9,6 +9,7 @@ use codec::Word;
 use device::{Device, Image, ReadAt};
 use folder::list_blobs;
 use layout::{SEG_HEADER_LEN, is_segment_size, segment_count};
+use std::process::ExitCode;
 use std::{env, fs};
 use verdict::{Verdict, judge};
 
@@ -98,10 +99,12 @@ fn run(rt: &HostRuntime) -> anyhow::Result<()> {
     }
 }
 
-fn main(rt: HostRuntime) -> anyhow::Result<()> {
-    let done = run(&rt);
-    if let Err(e) = &done {
-        eprintln!(rt; "inspect: {e}")?;
+fn main(rt: HostRuntime) -> ExitCode {
+    match run(&rt) {
+        Ok(()) => ExitCode::SUCCESS,
+        Err(e) => {
+            let _ = eprintln!(rt; "inspect: {e}");
+            ExitCode::FAILURE
+        }
     }
-    done
 }

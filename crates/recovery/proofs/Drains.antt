@@ -4,6 +4,7 @@ use Rattle.blobs.specs.declared.note.Note.{Note}
 use Rattle.messages.specs.declared.log_read.Record.{Record}
 use Rattle.refusals.specs.declared.refusal.Refusal.{Refusal}
 use Rattle.scan.specs.Order.{Segment, unless}
+use Rattle.tables.specs.Views.{contents}
 use Rattle.walks.specs.Walk.{Walked, more}
 use Rattle.recovery.specs.State.{told_by, rest_of, Sane, Same, Next}
 use Rattle.recovery.specs.declared.iterator.LogIter.{LogIter}
@@ -12,13 +13,18 @@ use Rattle.recovery.specs.declared.iterator.Step.TheVariants.{Yield, End, Fail}
 use Rattle.recovery.proofs.States.{same_self, same_same}
 
 module _ {R B : Type 0} where
-  -- what `next` ensures, where it speaks of what the walk refers to now
-  pub next-at : (notes notes2 : ℕ → Option Note) (dev dev2 : List ℕ) (order order2 : List Segment) (body body2 : ℕ) (b : List ℕ) (v w : LogIter R B) (r r2 : Step) → notes2 ≡ notes → dev2 ≡ dev → order2 ≡ order → body2 ≡ body → r2 ≡ r
-      → Next notes2 dev2 order2 b body2 v w r2 → Next notes dev order b body v w r
-  next-at notes notes2 dev dev2 order order2 body body2 b v w r r2 n d o m e t =
-      let t1 = subst (λ (x : ℕ → Option Note). Next x dev2 order2 b body2 v w r2) n t in
-      let t2 = subst (λ (x : List ℕ). Next notes x order2 b body2 v w r2) d t1 in
-      let t3 = subst (λ (x : List Segment). Next notes dev x b body2 v w r2) o t2 in
+  -- what `next` ensures of an iterator v, said of what the iterator u before it refers to
+  pub next-same : (maps : B → ℕ → Option Note) (bytes : R → List ℕ) (body body2 : ℕ) (b : List ℕ) (u v w : LogIter R B) (r r2 : Step) → Same u v → body2 ≡ body → r2 ≡ r
+      → Next (maps v.source.now) (bytes v.view.now) (contents v.order.now) b body2 v w r2 → Next (maps u.source.now) (bytes u.view.now) (contents u.order.now) b body v w r
+  next-same maps bytes body body2 b u v w r r2 s m e t =
+      let dev2 = bytes v.view.now in
+      let order2 = contents v.order.now in
+      let notes = maps u.source.now in
+      let dev = bytes u.view.now in
+      let order = contents u.order.now in
+      let t1 = subst (λ (x : ℕ → Option Note). Next x dev2 order2 b body2 v w r2) (ap (λ x. maps x.now) s.source) t in
+      let t2 = subst (λ (x : List ℕ). Next notes x order2 b body2 v w r2) (ap (λ x. bytes x.now) s.view) t1 in
+      let t3 = subst (λ (x : List Segment). Next notes dev x b body2 v w r2) (ap (λ x. contents x.now) s.order) t2 in
       let t4 = subst (λ x. Next notes dev order b x v w r2) m t3 in
       subst (λ (x : Step). Next notes dev order b body v w x) e t4
 
