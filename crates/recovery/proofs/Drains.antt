@@ -1,5 +1,5 @@
 -- A walk to its end whose records are dropped. Assumes nothing.
-use Rattle.std.proofs.Common.{◌≡◌, ℕ, ◌<◌, List, [], ◌∷◌, length, Ok, Err, Option, sym, refl, ap, ◌∙◌, subst, arith}
+use Rattle.std.proofs.Common.{◌≡◌, ℕ, ◌<◌, List, [], ◌∷◌, length, Ok, Err, Option, sym, ap, ◌∙◌, subst, arith}
 use Rattle.blobs.specs.declared.note.Note.{Note}
 use Rattle.messages.specs.declared.log_read.Record.{Record}
 use Rattle.refusals.specs.declared.refusal.Refusal.{Refusal}
@@ -10,23 +10,20 @@ use Rattle.recovery.specs.State.{told_by, rest_of, Sane, Same, Next}
 use Rattle.recovery.specs.declared.iterator.LogIter.{LogIter}
 use Rattle.recovery.specs.declared.iterator.Step.{Step}
 use Rattle.recovery.specs.declared.iterator.Step.TheVariants.{Yield, End, Fail}
-use Rattle.recovery.proofs.States.{same_self, same_same}
+use Rattle.recovery.proofs.States.{by_equals, same_same}
 
 module _ {R B : Type 0} where
   -- what `next` ensures of an iterator v, said of what the iterator u before it refers to
   pub next-same : (maps : B → ℕ → Option Note) (bytes : R → List ℕ) (body body2 : ℕ) (b : List ℕ) (u v w : LogIter R B) (r r2 : Step) → Same u v → body2 ≡ body → r2 ≡ r
       → Next (maps v.source.now) (bytes v.view.now) (contents v.order.now) b body2 v w r2 → Next (maps u.source.now) (bytes u.view.now) (contents u.order.now) b body v w r
-  next-same maps bytes body body2 b u v w r r2 s m e t =
-      let dev2 = bytes v.view.now in
-      let order2 = contents v.order.now in
+  next-same maps bytes body body2 b u v w r r2 s k e t =
       let notes = maps u.source.now in
       let dev = bytes u.view.now in
       let order = contents u.order.now in
-      let t1 = subst (λ (x : ℕ → Option Note). Next x dev2 order2 b body2 v w r2) (ap (λ x. maps x.now) s.source) t in
-      let t2 = subst (λ (x : List ℕ). Next notes x order2 b body2 v w r2) (ap (λ x. bytes x.now) s.view) t1 in
-      let t3 = subst (λ (x : List Segment). Next notes dev x b body2 v w r2) (ap (λ x. contents x.now) s.order) t2 in
-      let t4 = subst (λ x. Next notes dev order b x v w r2) m t3 in
-      subst (λ (x : Step). Next notes dev order b body v w x) e t4
+      let n = by_equals (λ ns ds os m. Next ns ds os b m v w r2) notes (maps v.source.now) dev (bytes v.view.now) order (contents v.order.now) body body2
+      (ap (λ x. maps x.now) s.source) (ap (λ x. bytes x.now) s.view) (ap (λ x. contents x.now) s.order) k t
+      in
+      subst (λ (x : Step). Next notes dev order b body v w x) e n
 
   module _ (notes : ℕ → Option Note) (dev : List ℕ) (order : List Segment) where
     pub yielded : (b : List ℕ) (body : ℕ) (v w : LogIter R B) (x : Record) → Next notes dev order b body v w (Yield x) → rest_of notes dev order v ≡ more (x ∷ []) (rest_of notes dev order w)
@@ -42,9 +39,6 @@ module _ {R B : Type 0} where
       pub current : (rest_of notes dev order v).current ≡ (rest_of notes dev order w).current
       pub sane : Sane notes dev order buffer body w
       pub same : Same v w
-
-    pub draining_none : (a : List ℕ) (body : ℕ) (v : LogIter R B) → Sane notes dev order a body v → Draining a body v v
-    draining_none a body v s = record { fault = refl; current = refl; sane = s; same = same_self v }
 
     module _ (a b : List ℕ) (body : ℕ) (u v w : LogIter R B) (d : Draining a body u v) where
       pub draining_more : (x : Record) → Next notes dev order b body v w (Yield x) → Draining b body u w

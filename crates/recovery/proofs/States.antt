@@ -10,7 +10,7 @@ use Rattle.messages.specs.Raw.{is_entry}
 use Rattle.messages.specs.declared.log_read.Record.{Record}
 use Rattle.refusals.specs.declared.refusal.Refusal.{Refusal}
 use Rattle.scan.specs.Order.{Segment}
-use Rattle.recovery.specs.State.{told_by, Small, left_of, rest, rest_of, Holds, Held, Sane, spare, weight, Less, Same, Going, Next, Turned}
+use Rattle.recovery.specs.State.{told_by, Small, left_of, rest, rest_of, Holds, Held, Sane, spare, Less, Same, Going, Turned}
 use Rattle.walks.specs.Walk.{past, turn_of, read_in, Walked, segment_bytes}
 use Rattle.recovery.specs.declared.iterator.LogIter.{LogIter}
 use Rattle.recovery.specs.declared.iterator.Step.{Step}
@@ -19,6 +19,15 @@ use Rattle.walks.specs.declared.turn.Turn.{Turn}
 use Rattle.walks.specs.declared.turn.Turn.TheVariants.{Yield as Yields, Pass, Release, Stop, Fail as Fails}
 use Rattle.walks.proofs.Turns.{Spans, turn-spans, entry_in}
 use Rattle.recovery.proofs.Rests.{t-out, t-past, t-yield, t-pass, t-release, t-stop, t-fail, w-none, w-past, w-take}
+
+-- what holds of a device, its blobs, the order and a buffer's length, said of their equals
+pub by_equals : (P : (ℕ → Option Note) → List ℕ → List Segment → ℕ → Type 0) (notes notes2 : ℕ → Option Note) (dev dev2 : List ℕ) (order order2 : List Segment) (body body2 : ℕ)
+    → notes2 ≡ notes → dev2 ≡ dev → order2 ≡ order → body2 ≡ body → P notes2 dev2 order2 body2 → P notes dev order body
+by_equals P notes notes2 dev dev2 order order2 body body2 n d o k t =
+    let t1 = subst (λ (x : ℕ → Option Note). P x dev2 order2 body2) n t in
+    let t2 = subst (λ (x : List ℕ). P notes x order2 body2) d t1 in
+    let t3 = subst (λ (x : List Segment). P notes dev x body2) o t2 in
+    subst (λ x. P notes dev order x) k t3
 
 module _ {R B : Type 0} where
   -- a walk that lets its segment go
@@ -217,24 +226,8 @@ module _ {R B : Type 0} where
       same = same_same u v w g.same t.next.same;
     }
 
-    pub to-less : (b : List ℕ) (v w : LogIter R B) (r : Step) → Turned notes dev order b body v w r → r ≡ More → weight w < weight v
-    to-less b v w r t e = subst (λ (x : Step). Less x v w) e t.less
-
-    pub to_end : (a b : List ℕ) (u v w : LogIter R B) (r q : Step) → Going notes dev order a body u v → Turned notes dev order b body v w r → r ≡ q → Next notes dev order b body u w q
-    to_end a b u v w r q g t e = record {
-      turn = g.left ∙ t.next.turn ∙ ap (λ (x : Step). told_by x w.current w.held (left_of order w) (rest_of notes dev order w)) e;
-      sane = t.next.sane;
-      same = same_same u v w g.same t.next.same;
-    }
-
-    pub at_start : (a : List ℕ) (v : LogIter R B) → Sane notes dev order a body v → Going notes dev order a body v v
-    at_start a v s = record { left = refl; sane = s; same = same_self v }
-
   -- the same, where the turn speaks of what the walk refers to now
   pub again : (notes notes2 : ℕ → Option Note) (dev dev2 : List ℕ) (order order2 : List Segment) (body body2 : ℕ) (a b : List ℕ) (u v w : LogIter R B) → notes2 ≡ notes → dev2 ≡ dev → order2 ≡ order → body2 ≡ body
       → Going notes dev order a body u v → Turned notes2 dev2 order2 b body2 v w More → Going notes dev order b body u w
-  again notes notes2 dev dev2 order order2 body body2 a b u v w n d o m g t =
-      let t1 = subst (λ (x : ℕ → Option Note). Turned x dev2 order2 b body2 v w More) n t in
-      let t2 = subst (λ (x : List ℕ). Turned notes x order2 b body2 v w More) d t1 in
-      let t3 = subst (λ (x : List Segment). Turned notes dev x b body2 v w More) o t2 in
-      to_more notes dev order body a b u v w More g (subst (λ x. Turned notes dev order b x v w More) m t3) refl
+  again notes notes2 dev dev2 order order2 body body2 a b u v w n d o k g t =
+      to_more notes dev order body a b u v w More g (by_equals (λ ns ds os m. Turned ns ds os b m v w More) notes notes2 dev dev2 order order2 body body2 n d o k t) refl
