@@ -5,26 +5,26 @@ ghost use Rattle.layout.specs.Kinds.{kind_number, kind_of, meant};
 #[derive(Clone, Copy, PartialEq, Eq, Debug)]
 pub enum MessageKind {
     // No message: its byte is 0 or above 11.
-    Corrupted,
+    Corrupted = 0,
     // A message given up by its writer.
-    Canceled,
+    Canceled = 1,
     // The rest of its segment is padding.
-    Cap,
+    Cap = 2,
     // What follows counts only once the log has reached the LSN in its body.
-    BatchManifest,
+    BatchManifest = 3,
     // A page given up.
-    Free,
+    Free = 4,
     // A page that counts.
-    Counter,
+    Counter = 5,
     // The page that names the others.
-    InlineMeta,
-    BlobMeta,
+    InlineMeta = 6,
+    BlobMeta = 7,
     // A page's whole content.
-    InlineNode,
-    BlobNode,
+    InlineNode = 8,
+    BlobNode = 9,
     // A change to a page.
-    InlineLink,
-    BlobLink,
+    InlineLink = 10,
+    BlobLink = 11,
 }
 
 // What a record does to its page.
@@ -52,11 +52,11 @@ pub enum Meaning {
     Record(LogKind, Storage),
 }
 
-impl MessageKind {
-    // The kind of a message whose fifth byte is `byte`.
-    pub fn from_number(byte: u8) -> Self
-        ensures { result ≡ kind_of byte }
-    {
+// The kind of a message whose fifth byte is `byte`.
+impl From<u8> for MessageKind {
+    ghost from_gives = { λ byte kind. kind ≡ kind_of byte };
+
+    fn from(byte: u8) -> MessageKind {
         match byte {
             1 => MessageKind::Canceled,
             2 => MessageKind::Cap,
@@ -72,27 +72,18 @@ impl MessageKind {
             _ => MessageKind::Corrupted,
         }
     }
+}
 
-    // The byte that it is written as.
-    pub fn number(self) -> u8
-        ensures { result ≡ kind_number self }
-    {
-        match self {
-            MessageKind::Corrupted => 0,
-            MessageKind::Canceled => 1,
-            MessageKind::Cap => 2,
-            MessageKind::BatchManifest => 3,
-            MessageKind::Free => 4,
-            MessageKind::Counter => 5,
-            MessageKind::InlineMeta => 6,
-            MessageKind::BlobMeta => 7,
-            MessageKind::InlineNode => 8,
-            MessageKind::BlobNode => 9,
-            MessageKind::InlineLink => 10,
-            MessageKind::BlobLink => 11,
-        }
+// The byte that a kind is written as.
+impl From<MessageKind> for u8 {
+    ghost from_gives = { λ kind byte. byte ≡ kind_number kind };
+
+    fn from(kind: MessageKind) -> u8 {
+        kind as u8
     }
+}
 
+impl MessageKind {
     pub fn meaning(self) -> Meaning
         ensures { result ≡ meant self }
     {

@@ -5,4 +5,4 @@ mod kind;
 mod segment_size;
 
 pub use kind::{LogKind, Meaning, MessageKind, Storage};
-pub use segment_size::{SEG_HEADER_LEN, is_segment_size, segment_count};
+pub use segment_size::{SEG_HEADER_LEN, SegmentSize, is_segment_size, segment_count};
