@@ -46,7 +46,7 @@ impl MessageHeader {
         ensures end { result ≡ at + length (message_header self) }
     {
         put_octets(buf, at, 4, u64::from(self.crc32));
-        buf[at + 4] = self.kind.number();
+        buf[at + 4] = u8::from(self.kind);
         let at = put_number(buf, at + 5, self.len);
         let at = put_number(buf, at, self.segment_number);
         put_number(buf, at, self.pid)
@@ -83,7 +83,7 @@ impl Serialize for MessageHeader {
         let (len, rest) = get_number(rest)?;
         let (segment_number, rest) = get_number(rest)?;
         let (pid, rest) = get_number(rest)?;
-        let kind = MessageKind::from_number(kind);
+        let kind = MessageKind::from(kind);
         Ok((
             MessageHeader {
                 crc32,

@@ -1,6 +1,5 @@
 pub mod Entries
 pub mod Judges
-pub mod Longs
 pub mod Round
 pub mod Windows
 pub mod Words

@@ -1,5 +1,5 @@
 -- A message that was written is the message that is read. Assumes nothing.
-use Rattle.std.proofs.Common.{◌≡◌, ℕ, ◌+◌, ◌-◌, ◌%◌, ◌^◌, ◌<◌, ◌≤◌, Bool, true, false, ◌&&◌, ◌||◌, leb, List, ◌++◌, length, take, drop, replicate, Some, sym, refl, ap, ◌∙◌, ap₂, append_assoc, arith, length-append, take_at, drop_at}
+use Rattle.std.proofs.Common.{◌≡◌, ℕ, ◌+◌, ◌-◌, ◌%◌, ◌^◌, ◌<◌, ◌≤◌, Bool, true, false, ◌&&◌, ◌||◌, leb, List, ◌++◌, length, take, drop, replicate, Some, sym, refl, ap, ◌∙◌, ap₂, append_assoc, arith, length-append, take_at, drop_at, Ok}
 use lib.Seq.{take-append-add}
 use Rattle.std.proofs.lemmas.List.{length-take-le}
 use Rattle.std.proofs.lemmas.Bool.{cond-true, le-leb, eq-eqb}
@@ -15,10 +15,8 @@ use Rattle.device.specs.Reads.{begins}
 use Rattle.layout.proofs.Powers.{sized}
 use Rattle.layout.specs.Sizes.{is_segment_size}
 use Rattle.layout.specs.declared.kind.MessageKind.{MessageKind}
-use Rattle.messages.specs.Raw.{is_entry, ahead, known, word_in, decided, judged, raw_in, raw_at}
+use Rattle.messages.specs.Raw.{Raw, is_entry, ahead, known, word_in, decided, judged, raw_in, raw_at}
 use Rattle.messages.specs.Told.{found_of, Stands}
-use Rattle.messages.specs.declared.log_read.Raw.{Raw}
-use Rattle.messages.specs.declared.log_read.Raw.TheVariants.{Whole}
 
 length-message : (kind : MessageKind) (number page : ℕ) (body : List ℕ)
     → length (message kind number page body) ≡ length (message_header (message_of kind number page body)) + length body
@@ -33,7 +31,7 @@ module _ (kind : MessageKind) (number page : ℕ) (body : List ℕ) (nf : number
   front = message_header head
 
   abbrev found : Raw
-  found = Whole (record { kind = kind; pid = page; len = length (message kind number page body); word = word_in body })
+  found = Ok (record { kind = kind; pid = page; len = length (message kind number page body); word = word_in body })
 
   front_short : length front ≤ 32
   front_short = omega (arith, length_header head, length-shortest (length body) bf, length-shortest number nf, length-shortest page pf)
@@ -65,7 +63,7 @@ module _ (kind : MessageKind) (number page : ℕ) (body : List ℕ) (nf : number
       let b = ap (take (length body)) (drop_at front (body ++ tail) (length front) refl) ∙ take_at body tail (length body) refl in
       ap₂ (λ x y. decided head number x y) h b
       ∙ cond-true _ _ _ (ap₂ ◌&&◌ (eq-eqb head.crc32 (message_sum front body) (sym summed)) (eq-eqb number number refl))
-      ∙ ap (λ n. Whole (record { kind = kind; pid = page; len = n; word = word_in body })) (sym whole_length)
+      ∙ ap (λ n. Ok (record { kind = kind; pid = page; len = n; word = word_in body })) (sym whole_length)
 
   judges : (size p have : ℕ) (tail : List ℕ) → p + length (message kind number page body) ≤ size → known kind ≡ true → length (message kind number page body) ≤ have
       → judged size number p have (front ++ (body ++ tail)) head (length front) ≡ found
@@ -106,7 +104,7 @@ module _ (kind : MessageKind) (number page : ℕ) (body : List ℕ) (nf : number
       ∙ judges size p have tail s k (omega arith)
 
 pub message_round : (size number first place page : ℕ) (bytes body : List ℕ) (kind : MessageKind) → is_segment_size size ≡ true → number < 2 ^ 64
-    → Stands size number first place bytes kind page body → raw_at size number first bytes place ≡ Whole (found_of kind page (length (message kind number page body)) body)
+    → Stands size number first place bytes kind page body → raw_at size number first bytes place ≡ Ok (found_of kind page (length (message kind number page body)) body)
 message_round size number first place page bytes body kind z nf s =
     raw_round kind number page body nf s.page-fits (omega (arith, s.fits, (sized size z).high, length-message kind number page body)) size first place bytes
     s.before s.after s.around s.at s.entry s.fits s.kind-known

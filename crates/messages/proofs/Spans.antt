@@ -1,5 +1,5 @@
 -- A message that was read is not empty and ends inside its segment. Assumes nothing.
-use Rattle.std.proofs.Common.{◌≡◌, ℕ, ◌+◌, ◌-◌, ◌*◌, ◌%◌, ◌<◌, ◌≤◌, cond, ◌&&◌, ◌||◌, eqb, leb, List, [], ◌∷◌, length, take, drop, Some, None, Option, arith, length-append, length-drop, length-take}
+use Rattle.std.proofs.Common.{◌≡◌, ℕ, ◌+◌, ◌-◌, ◌*◌, ◌%◌, ◌<◌, ◌≤◌, cond, ◌&&◌, ◌||◌, eqb, leb, List, [], ◌∷◌, length, take, drop, Some, None, Option, arith, length-append, length-drop, length-take, Ok, Err}
 use lib.ListN.{length-replicate}
 use Rattle.std.proofs.lemmas.Bool.{cond_both, leb-true}
 use Rattle.std.proofs.lemmas.Bool.Decides.{nat_tests}
@@ -10,7 +10,7 @@ use Rattle.codec.specs.declared.message_header.MessageHeader.{MessageHeader}
 use Rattle.device.specs.Reads.{begins}
 use Rattle.messages.specs.Raw.{is_entry, ahead, known, decided, judged, raw_in, raw_at}
 use Rattle.messages.specs.declared.log_read.Found.{Found}
-use Rattle.messages.specs.declared.log_read.Raw.TheVariants.{Whole, Corrupted, Short}
+use Rattle.messages.specs.declared.log_read.NoMessage.TheVariants.{Corrupted, Short}
 
 -- ---- what is left behind a number or a field is no longer than before
 abbrev Shorter : {A : Type 0} → ℕ → List ℕ → Option (A × List ℕ) → Type 0
@@ -66,35 +66,35 @@ pub record Span (size p len : ℕ) : Type 0 where
   pub some : 0 < len
   pub within : p + len ≤ size
 
-decided_len : (h : MessageHeader) (number : ℕ) (header body : List ℕ) (f : Found) → decided h number header body ≡ Whole f → f.len ≡ length header + h.len
+decided_len : (h : MessageHeader) (number : ℕ) (header body : List ℕ) (f : Found) → decided h number header body ≡ Ok f → f.len ≡ length header + h.len
 unfolding decided
 decided_len h number header body f =
-    cond_both (eqb h.crc32 _ && eqb h.segment_number number) _ Corrupted (λ r. r ≡ Whole f → f.len ≡ length header + h.len)
+    cond_both (eqb h.crc32 _ && eqb h.segment_number number) _ (Err Corrupted) (λ r. r ≡ Ok f → f.len ≡ length header + h.len)
     (λ t e. cc) (λ t e. absurd (let z : ◌≡◌ {A = ℕ} 0 1 = cc in omega arith))
 
-judged_span : (size number p have : ℕ) (w : List ℕ) (h : MessageHeader) (hl : ℕ) (f : Found) → 0 < hl → hl ≤ length w → judged size number p have w h hl ≡ Whole f → Span size p f.len
+judged_span : (size number p have : ℕ) (w : List ℕ) (h : MessageHeader) (hl : ℕ) (f : Found) → 0 < hl → hl ≤ length w → judged size number p have w h hl ≡ Ok f → Span size p f.len
 unfolding judged
 judged_span size number p have w h hl f a b =
     let d = decided h number (take hl w) (take h.len (drop hl w)) in
     let n = length-take hl w in
-    cond_both (leb (p + (hl + h.len)) size && known h.kind) (cond (leb (hl + h.len) 128 || leb (hl + h.len) have) d Short) Corrupted (λ r. r ≡ Whole f → Span size p f.len)
+    cond_both (leb (p + (hl + h.len)) size && known h.kind) (cond (leb (hl + h.len) 128 || leb (hl + h.len) have) d (Err Short)) (Err Corrupted) (λ r. r ≡ Ok f → Span size p f.len)
     (λ t. let l : p + (hl + h.len) ≤ size = grind (arith, nat_tests) in
-    cond_both (leb (hl + h.len) 128 || leb (hl + h.len) have) d Short (λ r. r ≡ Whole f → Span size p f.len)
+    cond_both (leb (hl + h.len) 128 || leb (hl + h.len) have) d (Err Short) (λ r. r ≡ Ok f → Span size p f.len)
     (λ u e. let k = decided_len h number (take hl w) (take h.len (drop hl w)) f e in record { some = omega arith; within = omega arith })
     (λ u e. absurd (let z : ◌≡◌ {A = ℕ} 0 1 = cc in omega arith)))
     (λ t e. absurd (let z : ◌≡◌ {A = ℕ} 0 1 = cc in omega arith))
 
-in_span : (size number p have : ℕ) (w v : List ℕ) (o : Option (MessageHeader × List ℕ)) (f : Found) → 128 ≤ length w → length v ≡ 128 → Shorter 5 v o → raw_in size number p have w o ≡ Whole f → Span size p f.len
+in_span : (size number p have : ℕ) (w v : List ℕ) (o : Option (MessageHeader × List ℕ)) (f : Found) → 128 ≤ length w → length v ≡ 128 → Shorter 5 v o → raw_in size number p have w o ≡ Ok f → Span size p f.len
 in_span size number p have w v None f a b s e = absurd (let z : ◌≡◌ {A = ℕ} 0 1 = cc in omega arith)
 in_span size number p have w v (Some q) f a b s e = judged_span size number p have w q.0 (128 - length q.1) f (omega arith) (omega arith) e
 
-pub raw_span : (size number first place : ℕ) (bytes : List ℕ) (f : Found) → raw_at size number first bytes place ≡ Whole f → Span size (place % size) f.len
+pub raw_span : (size number first place : ℕ) (bytes : List ℕ) (f : Found) → raw_at size number first bytes place ≡ Ok f → Span size (place % size) f.len
 unfolding raw_at ahead
 raw_span size number first place bytes f =
     let w = ahead bytes (place - first) in
     let long : 128 ≤ length w = unfold ahead in simp (length-append, length-replicate) (omega arith) in
     let v : length (take 128 w) ≡ 128 = simp length-take (omega arith) in
     cond_both (is_entry size (place % size) && begins first bytes place)
-    (raw_in size number (place % size) (first + length bytes - place) w (read_message_header (take 128 w))) Short (λ r. r ≡ Whole f → Span size (place % size) f.len)
+    (raw_in size number (place % size) (first + length bytes - place) w (read_message_header (take 128 w))) (Err Short) (λ r. r ≡ Ok f → Span size (place % size) f.len)
     (λ t e. in_span size number (place % size) (first + length bytes - place) w (take 128 w) (read_message_header (take 128 w)) f long v (header-shorter (take 128 w)) e)
     (λ t e. absurd (let z : ◌≡◌ {A = ℕ} 0 1 = cc in omega arith))

@@ -6,7 +6,7 @@
 --   judged ..             by length and kind, then by what there is, then decided
 --   raw_at ..             the message at a place of a view
 --   body_read ..          how many bytes of body were read besides the 128
-use Rattle.std.specs.Prelude.{ℕ, ◌+◌, ◌-◌, ◌%◌, Bool, cond, ◌&&◌, ◌||◌, List, ◌++◌, length, take, drop, replicate, Some, None, Option, ◌==◌, nat_le, nat_lt}
+use Rattle.std.specs.Prelude.{ℕ, ◌+◌, ◌-◌, ◌%◌, Bool, cond, ◌&&◌, ◌||◌, List, ◌++◌, length, take, drop, replicate, Some, None, Option, Ok, Err, Result, ◌==◌, nat_le, nat_lt}
 use Rattle.layout.specs.Kinds.{kind_number}
 use Rattle.layout.specs.declared.kind.MessageKind.{MessageKind}
 use Rattle.codec.specs.Messages.{message_sum, read_message_header}
@@ -14,8 +14,13 @@ use Rattle.codec.specs.Numbers.{little}
 use Rattle.codec.specs.declared.message_header.MessageHeader.{MessageHeader}
 use Rattle.codec.specs.declared.word.Word.{Word}
 use Rattle.device.specs.Reads.{begins}
-use Rattle.messages.specs.declared.log_read.Raw.{Raw}
-use Rattle.messages.specs.declared.log_read.Raw.TheVariants.{Whole, Corrupted, Short}
+use Rattle.messages.specs.declared.log_read.Found.{Found}
+use Rattle.messages.specs.declared.log_read.NoMessage.{NoMessage}
+use Rattle.messages.specs.declared.log_read.NoMessage.TheVariants.{Corrupted, Short}
+
+-- a message, or why there is none
+abbrev pub Raw : Type 0
+Raw = Result Found NoMessage
 
 abbrev pub is_entry : ℕ → ℕ → Bool
 is_entry size p = nat_le 20 p && nat_le (p + 32) size
@@ -36,21 +41,21 @@ reached have hl n = nat_le (hl + n) 128 || nat_le (hl + n) have
 unfoldable pub decided : MessageHeader → ℕ → List ℕ → List ℕ → Raw
 decided h number header body =
     cond (h.crc32 == message_sum header body && h.segment_number == number)
-    (Whole (record { kind = h.kind; pid = h.pid; len = length header + h.len; word = word_in body })) Corrupted
+    (Ok (record { kind = h.kind; pid = h.pid; len = length header + h.len; word = word_in body })) (Err Corrupted)
 
 unfoldable pub judged : ℕ → ℕ → ℕ → ℕ → List ℕ → MessageHeader → ℕ → Raw
 judged size number p have w h hl =
     cond (nat_le (p + (hl + h.len)) size && known h.kind)
-    (cond (reached have hl h.len) (decided h number (take hl w) (take h.len (drop hl w))) Short) Corrupted
+    (cond (reached have hl h.len) (decided h number (take hl w) (take h.len (drop hl w))) (Err Short)) (Err Corrupted)
 
 abbrev pub raw_in : ℕ → ℕ → ℕ → ℕ → List ℕ → Option (MessageHeader × List ℕ) → Raw
-raw_in size number p have w None = Corrupted
+raw_in size number p have w None = Err Corrupted
 raw_in size number p have w (Some q) = judged size number p have w q.0 (128 - length q.1)
 
 unfoldable pub raw_at : ℕ → ℕ → ℕ → List ℕ → ℕ → Raw
 raw_at size number first bytes place =
     cond (is_entry size (place % size) && begins first bytes place)
-    (raw_in size number (place % size) (first + length bytes - place) (ahead bytes (place - first)) (read_message_header (take 128 (ahead bytes (place - first))))) Short
+    (raw_in size number (place % size) (first + length bytes - place) (ahead bytes (place - first)) (read_message_header (take 128 (ahead bytes (place - first))))) (Err Short)
 
 unfoldable pub body_needed : ℕ → ℕ → ℕ → MessageHeader → ℕ → ℕ
 body_needed size p have h hl =

@@ -19,14 +19,13 @@ use Rattle.layout.specs.declared.kind.MessageKind.{MessageKind}
 use Rattle.layout.specs.declared.kind.Storage.TheVariants.{Inline as InMessage, Blob as InFile}
 use Rattle.refusals.specs.declared.refusal.Refusal.{Refusal}
 use Rattle.refusals.specs.declared.refusal.Refusal.TheVariants.{Size, Body, Blob as BadBlob, Buffer}
-use Rattle.messages.specs.Raw.{is_entry, known, word_in, raw_at, body_read}
+use Rattle.messages.specs.Raw.{Raw, is_entry, known, word_in, raw_at, body_read}
 use Rattle.messages.specs.declared.disk_pointer.DiskPtr.{DiskPtr}
 use Rattle.messages.specs.declared.disk_pointer.DiskPtr.TheVariants.{Inline, Blob}
 use Rattle.messages.specs.declared.log_read.Found.{Found}
 use Rattle.messages.specs.declared.log_read.LogRead.{LogRead}
 use Rattle.messages.specs.declared.log_read.LogRead.TheVariants.{Record as Yielded, Canceled, Dangling, BatchManifest, Cap, Corrupted, Short}
-use Rattle.messages.specs.declared.log_read.Raw.{Raw}
-use Rattle.messages.specs.declared.log_read.Raw.TheVariants.{Whole, Corrupted as RawCorrupted, Short as RawShort}
+use Rattle.messages.specs.declared.log_read.NoMessage.TheVariants.{Corrupted as Damaged, Short as Ended}
 use Rattle.messages.specs.declared.log_read.Record.{Record}
 
 abbrev pub record_of : Found → LogKind → ℕ → DiskPtr → Record
@@ -54,9 +53,9 @@ told notes place lsn f (Records kind InMessage) = Ok (Yielded (record_of f kind 
 told notes place lsn f (Records kind InFile) = blob_told notes place lsn f kind f.word
 
 abbrev pub understood : (ℕ → Option Note) → ℕ → ℕ → Raw → Result LogRead Refusal
-understood notes place lsn (Whole f) = told notes place lsn f (meant f.kind)
-understood notes place lsn RawCorrupted = Ok Corrupted
-understood notes place lsn RawShort = Ok Short
+understood notes place lsn (Ok f) = told notes place lsn f (meant f.kind)
+understood notes place lsn (Err Damaged) = Ok Corrupted
+understood notes place lsn (Err Ended) = Ok Short
 
 abbrev pub message_read : (ℕ → Option Note) → ℕ → ℕ → ℕ → ℕ → List ℕ → ℕ → Result LogRead Refusal
 message_read notes room size lsn first bytes place =

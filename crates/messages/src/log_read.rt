@@ -1,10 +1,14 @@
 // What a message is to a reader of the log.
+ghost use Rattle.std.specs.Prelude.{◌≡◌};
+ghost use Rattle.messages.specs.declared.log_read.NoMessage.TheVariants.{Corrupted, Short};
+
 use crate::DiskPtr;
-use codec::{Lsn, PageId, Word};
+use codec::{CodecError, Lsn, PageId, Word};
+use device::DeviceError;
 use layout::{LogKind, MessageKind};
 
 // A change to a page: at which LSN, where its content stands, and how long its message is.
-#[derive(Clone, Copy)]
+#[derive(Clone, Copy, PartialEq, Eq, Debug)]
 pub struct Record {
     pub kind: LogKind,
     pub pid: PageId,
@@ -14,7 +18,7 @@ pub struct Record {
 }
 
 // Lengths are those of whole messages.
-#[derive(Clone, Copy)]
+#[derive(Clone, Copy, PartialEq, Eq, Debug)]
 pub enum LogRead {
     Record(Record),
     Canceled(u64),
@@ -38,9 +42,25 @@ pub struct Found {
     pub word: Option<Word>,
 }
 
+// Why no message is found.
 #[derive(Clone, Copy)]
-pub enum Raw {
-    Whole(Found),
+pub enum NoMessage {
     Corrupted,
     Short,
+}
+
+impl From<DeviceError> for NoMessage {
+    ghost from_gives = { λ _ none. none ≡ Short };
+
+    fn from(_e: DeviceError) -> NoMessage {
+        NoMessage::Short
+    }
+}
+
+impl From<CodecError> for NoMessage {
+    ghost from_gives = { λ _ none. none ≡ Corrupted };
+
+    fn from(_e: CodecError) -> NoMessage {
+        NoMessage::Corrupted
+    }
 }

@@ -5,16 +5,15 @@ ghost use Rattle.layout.specs.Kinds.{meant};
 ghost use Rattle.layout.specs.Sizes.{is_segment_size};
 ghost use Rattle.layout.specs.declared.kind.MessageKind.{MessageKind};
 ghost use Rattle.messages.specs.Raw.{cleared};
-ghost use Rattle.messages.specs.Told.{record_of, note_told, blob_told, manifest_told, told, message_read, body_used, found_of, Stands};
+ghost use Rattle.messages.specs.Told.{record_of, blob_told, manifest_told, told, message_read, body_used, found_of, Stands};
 
-use crate::log_read::{Found, Raw};
-use crate::raw::read_raw;
+use crate::log_read::{Found, NoMessage};
 use crate::spot::Spot;
 use crate::{DiskPtr, LogRead, Record};
-use blobs::{BlobSource, Note};
-use codec::{Lsn, Word};
+use blobs::BlobSource;
+use codec::Lsn;
 use device::ReadAt;
-use layout::{LogKind, Meaning, Storage, is_segment_size};
+use layout::{LogKind, Meaning, SegmentSize, Storage};
 use refusals::Refusal;
 
 impl Found {
@@ -29,66 +28,48 @@ impl Found {
             len: self.len,
         }
     }
-}
 
-// A record of a blob kind, by what is known of its blob.
-fn tell_note(
-    place: u64,
-    lsn: Lsn,
-    found: Found,
-    kind: LogKind,
-    pointer: u64,
-    note: Option<Note>,
-) -> Result<LogRead, Refusal>
-    ensures { result ≡ note_told place lsn found kind pointer note }
-{
-    let Some(note) = note else {
-        return Ok(LogRead::Dangling(found.len));
-    };
-    if note.sound && note.kind == found.kind.number() {
-        Ok(LogRead::Record(found.record(kind, lsn, DiskPtr::Blob(place, pointer))))
-    } else {
-        Err(Refusal::Blob(place))
-    }
-}
-
-fn tell_blob<B: BlobSource>(
-    source: &B,
-    place: u64,
-    lsn: Lsn,
-    found: Found,
-    kind: LogKind,
-) -> Result<LogRead, Refusal>
-    ensures { result ≡ blob_told (B.BlobSource.notes source.now) place lsn found kind found.word }
-{
-    match found.word {
-        Some(word) => tell_note(place, lsn, found, kind, word.bits, source.blob(word.bits)),
-        None => Err(Refusal::Body(place)),
-    }
-}
-
-fn tell_manifest(place: u64, found: Found) -> Result<LogRead, Refusal>
-    ensures { result ≡ manifest_told place found found.word }
-{
-    match found.word {
-        Some(word) => Ok(LogRead::BatchManifest(word, found.len)),
-        None => Err(Refusal::Body(place)),
-    }
-}
-
-// What a message is, by its kind.
-fn tell<B: BlobSource>(source: &B, place: u64, lsn: Lsn, found: Found) -> Result<LogRead, Refusal>
-    ensures { result ≡ told (B.BlobSource.notes source.now) place lsn found (meant found.kind) }
-{
-    match found.kind.meaning() {
-        Meaning::Corrupted => Ok(LogRead::Corrupted),
-        Meaning::Canceled => Ok(LogRead::Canceled(found.len)),
-        Meaning::Cap => Ok(LogRead::Cap),
-        Meaning::BatchManifest => tell_manifest(place, found),
-        Meaning::Record(kind, Storage::Inline) => {
-            Ok(LogRead::Record(found.record(kind, lsn, DiskPtr::Inline(place))))
+    // A record of a blob kind, by what is known of its blob.
+    fn tell_blob<B: BlobSource>(
+        self,
+        source: &B,
+        place: u64,
+        lsn: Lsn,
+        kind: LogKind,
+    ) -> Result<LogRead, Refusal>
+        ensures { result ≡ blob_told (B.BlobSource.notes source.now) place lsn self kind self.word }
+    {
+        let pointer = self.word.ok_or(Refusal::Body(place))?.bits;
+        match source.blob(pointer) {
+            None => Ok(LogRead::Dangling(self.len)),
+            Some(note) if note.sound && note.kind == u8::from(self.kind) => {
+                Ok(LogRead::Record(self.record(kind, lsn, DiskPtr::Blob(place, pointer))))
+            }
+            Some(_) => Err(Refusal::Blob(place)),
         }
-        Meaning::Record(kind, Storage::Blob) => tell_blob(source, place, lsn, found, kind),
+    }
+
+    fn tell_manifest(self, place: u64) -> Result<LogRead, Refusal>
+        ensures { result ≡ manifest_told place self self.word }
+    {
+        let last = self.word.ok_or(Refusal::Body(place))?;
+        Ok(LogRead::BatchManifest(last, self.len))
+    }
+
+    // What a message is, by its kind.
+    fn tell<B: BlobSource>(self, source: &B, place: u64, lsn: Lsn) -> Result<LogRead, Refusal>
+        ensures { result ≡ told (B.BlobSource.notes source.now) place lsn self (meant self.kind) }
+    {
+        match self.kind.meaning() {
+            Meaning::Corrupted => Ok(LogRead::Corrupted),
+            Meaning::Canceled => Ok(LogRead::Canceled(self.len)),
+            Meaning::Cap => Ok(LogRead::Cap),
+            Meaning::BatchManifest => self.tell_manifest(place),
+            Meaning::Record(kind, Storage::Inline) => {
+                Ok(LogRead::Record(self.record(kind, lsn, DiskPtr::Inline(place))))
+            }
+            Meaning::Record(kind, Storage::Blob) => self.tell_blob(source, place, lsn, kind),
+        }
     }
 }
 
@@ -104,25 +85,21 @@ fn read_checked<R: ReadAt, B: BlobSource>(
     ensures reply { result ≡ message_read (B.BlobSource.notes source.now) (length body.old) size lsn (R.ReadAt.first view.now) (R.ReadAt.bytes view.now) place }
     ensures body { body.new ≡ cleared (body_used (length body.old) size (R.ReadAt.first view.now) (R.ReadAt.bytes view.now) place) body.old }
 {
-    if !is_segment_size(size) {
-        return Err(Refusal::Size);
-    }
-    if size > body.len() as u64 {
+    let size = SegmentSize::new(size).ok_or(Refusal::Size)?;
+    if size.bytes() > body.len() as u64 {
         return Err(Refusal::Buffer);
     }
-    let number = lsn / size;
-    match read_raw(
+    let number = lsn / size.bytes();
+    let spot = Spot {
         view,
-        body,
-        Spot {
-            size,
-            number,
-            place,
-        },
-    ) {
-        Raw::Whole(found) => tell(source, place, lsn, found),
-        Raw::Corrupted => Ok(LogRead::Corrupted),
-        Raw::Short => Ok(LogRead::Short),
+        size,
+        number,
+        place,
+    };
+    match spot.read(body) {
+        Ok(found) => found.tell(source, place, lsn),
+        Err(NoMessage::Corrupted) => Ok(LogRead::Corrupted),
+        Err(NoMessage::Short) => Ok(LogRead::Short),
     }
 }
 

@@ -1,13 +1,11 @@
 // The bytes of a message, judged before its kind is looked at.
-ghost use Rattle.std.specs.Prelude.{◌≡◌, ◌+◌, ◌-◌, ◌%◌, ◌≤◌, true, cond, length, if◌then◌else◌};
-ghost use Rattle.codec.specs.Messages.{read_message_header};
-ghost use Rattle.layout.specs.Sizes.{is_segment_size};
+ghost use Rattle.std.specs.Prelude.{◌≡◌, ◌+◌, ◌-◌, ◌%◌, ◌≤◌, length, Ok, Err, if◌then◌else◌};
 ghost use Rattle.device.specs.Reads.{inside, part};
-ghost use Rattle.messages.specs.declared.log_read.Raw.TheVariants.{Short};
+ghost use Rattle.messages.specs.declared.log_read.NoMessage.TheVariants.{Short};
 ghost use Rattle.messages.specs.Spots.{Entered};
-ghost use Rattle.messages.specs.Raw.{is_entry, ahead, known, word_in, decided, judged, raw_in, raw_at, body_read, body_in, body_needed, cleared};
+ghost use Rattle.messages.specs.Raw.{is_entry, ahead, word_in, decided, judged, raw_at, body_read, body_needed, cleared};
 
-use crate::log_read::{Found, Raw};
+use crate::log_read::{Found, NoMessage};
 use crate::spot::Spot;
 use codec::{MessageHeader, Serialize, Word, calculate_message_crc32, has_room};
 use device::ReadAt;
@@ -24,36 +22,30 @@ pub fn is_entry(size: u64, p: u64) -> bool
 }
 
 // The body as an eight-byte field, where it has that length.
+#[tactic(auto, using(crate::proofs::Words::word_is, crate::proofs::Words::word_none), unfolding(crate::specs::Raw::word_in))]
 fn word_of(body: &[u8]) -> Option<Word>
     ensures { result ≡ word_in body.now }
 {
     if body.len() != 8 {
         return None;
     }
-    match Word::deserialize(body) {
-        Ok((word, _)) => Some(word),
-        Err(_) => None,
-    }
-}
-
-fn is_known(kind: MessageKind) -> bool
-    ensures { result ≡ known kind }
-{
-    kind.number() > 0
+    let (word, _) = Word::deserialize(body).ok()?;
+    Some(word)
 }
 
 // By checksum and segment number.
-fn decide(h: MessageHeader, number: u64, header: &[u8], body: &[u8]) -> Raw
+#[tactic(auto, unfolding(crate::specs::Raw::decided))]
+fn decide(h: MessageHeader, number: u64, header: &[u8], body: &[u8]) -> Result<Found, NoMessage>
     requires { length header.now + h.len ≤ 1048576 }
     ensures { result ≡ decided h number header.now body.now }
 {
     if h.crc32 != calculate_message_crc32(header, body) {
-        return Raw::Corrupted;
+        return Err(NoMessage::Corrupted);
     }
     if h.segment_number != number {
-        return Raw::Corrupted;
+        return Err(NoMessage::Corrupted);
     }
-    Raw::Whole(Found {
+    Ok(Found {
         kind: h.kind,
         pid: h.pid,
         len: header.len() as u64 + h.len,
@@ -61,93 +53,74 @@ fn decide(h: MessageHeader, number: u64, header: &[u8], body: &[u8]) -> Raw
     })
 }
 
-// A body that is not whole among the bytes read ahead, through the lent buffer, which is zeroed again.
-fn judge_long<R: ReadAt>(
-    view: &R,
-    body: &mut [u8],
-    number: u64,
-    from: u64,
-    h: MessageHeader,
-    header: &[u8],
-) -> Raw
-    requires room { h.len ≤ length body.old }
-    requires small { length header.now + h.len ≤ 1048576 }
-    ensures value { result ≡ cond (inside (R.ReadAt.first view.now) (R.ReadAt.bytes view.now) from h.len)
-        (decided h number header.now (part (R.ReadAt.first view.now) (R.ReadAt.bytes view.now) from h.len)) Short }
-    ensures body { body.new ≡ cleared (if inside (R.ReadAt.first view.now) (R.ReadAt.bytes view.now) from h.len then h.len else 0) body.old }
-{
-    let n = h.len as usize;
-    match view.pread_exact(&mut body[0..n], from) {
-        Ok(()) => {
-            let raw = decide(h, number, header, &body[0..n]);
-            body[0..n].fill(0);
-            raw
+impl<R: ReadAt> Spot<'_, R> {
+    // A body that is not whole among the bytes read ahead, through the lent buffer, which is zeroed again.
+    fn judge_long(
+        &self,
+        body: &mut [u8],
+        h: MessageHeader,
+        header: &[u8],
+        from: u64,
+    ) -> Result<Found, NoMessage>
+        requires room { h.len ≤ length body.old }
+        requires small { length header.now + h.len ≤ 1048576 }
+        ensures value { result ≡ (if inside (R.ReadAt.first self.now.view.now) (R.ReadAt.bytes self.now.view.now) from h.len
+            then decided h self.now.number header.now (part (R.ReadAt.first self.now.view.now) (R.ReadAt.bytes self.now.view.now) from h.len) else Err Short) }
+        ensures body { body.new ≡ cleared (if inside (R.ReadAt.first self.now.view.now) (R.ReadAt.bytes self.now.view.now) from h.len then h.len else 0) body.old }
+    {
+        let whole = &mut body[0..h.len as usize];
+        self.view.pread_exact(whole, from)?;
+        let found = decide(h, self.number, header, whole);
+        whole.fill(0);
+        found
+    }
+
+    // By length and kind, then by what there is of the body.
+    #[tactic(auto, unfolding(crate::specs::Raw::judged, crate::specs::Raw::body_needed))]
+    fn judge(
+        &self,
+        body: &mut [u8],
+        w: &[u8],
+        h: MessageHeader,
+        hl: usize,
+    ) -> Result<Found, NoMessage>
+        requires entered { Entered self.now.size self.now.place (R.ReadAt.first self.now.view.now) (R.ReadAt.bytes self.now.view.now) w.now }
+        requires room { self.now.size ≤ length body.old }
+        requires short { hl ≤ 128 }
+        ensures value { result ≡ judged self.now.size self.now.number (self.now.place % self.now.size)
+            (R.ReadAt.first self.now.view.now + length (R.ReadAt.bytes self.now.view.now) - self.now.place)
+            (ahead (R.ReadAt.bytes self.now.view.now) (self.now.place - R.ReadAt.first self.now.view.now)) h hl }
+        ensures body { body.new ≡ cleared (body_needed self.now.size (self.now.place % self.now.size)
+            (R.ReadAt.first self.now.view.now + length (R.ReadAt.bytes self.now.view.now) - self.now.place) h hl) body.old }
+    {
+        let size = self.size.bytes();
+        let n = h.len as usize;
+        if !has_room((size - self.place % size) as usize, hl, n)
+            || h.kind == MessageKind::Corrupted
+        {
+            return Err(NoMessage::Corrupted);
         }
-        Err(_) => Raw::Short,
-    }
-}
-
-// By length and kind, then by what there is of the body.
-fn judge<R: ReadAt>(
-    view: &R,
-    body: &mut [u8],
-    spot: Spot,
-    w: &[u8],
-    h: MessageHeader,
-    hl: usize,
-) -> Raw
-    requires entered { Entered spot (R.ReadAt.first view.now) (R.ReadAt.bytes view.now) w.now }
-    requires room { spot.size ≤ length body.old }
-    requires short { hl ≤ 128 }
-    ensures value { result ≡ judged spot.size spot.number (spot.place % spot.size) (R.ReadAt.first view.now + length (R.ReadAt.bytes view.now) - spot.place)
-        (ahead (R.ReadAt.bytes view.now) (spot.place - R.ReadAt.first view.now)) h hl }
-    ensures body { body.new ≡ cleared (body_needed spot.size (spot.place % spot.size) (R.ReadAt.first view.now + length (R.ReadAt.bytes view.now) - spot.place) h hl) body.old }
-{
-    let left = (spot.size - spot.place % spot.size) as usize;
-    let n = h.len as usize;
-    if !has_room(left, hl, n) {
-        return Raw::Corrupted;
-    }
-    if !is_known(h.kind) {
-        return Raw::Corrupted;
-    }
-    let header = &w[0..hl];
-    if n <= AHEAD - hl {
-        return decide(h, spot.number, header, &w[hl..hl + n]);
-    }
-    judge_long(view, body, spot.number, spot.place + hl as u64, h, header)
-}
-
-// The message whose first 128 bytes are `w`. That many always hold a header.
-fn read_window<R: ReadAt>(view: &R, body: &mut [u8], spot: Spot, w: &[u8]) -> Raw
-    requires entered { Entered spot (R.ReadAt.first view.now) (R.ReadAt.bytes view.now) w.now }
-    requires room { spot.size ≤ length body.old }
-    ensures value { result ≡ raw_in spot.size spot.number (spot.place % spot.size) (R.ReadAt.first view.now + length (R.ReadAt.bytes view.now) - spot.place)
-        (ahead (R.ReadAt.bytes view.now) (spot.place - R.ReadAt.first view.now)) (read_message_header w.now) }
-    ensures body { body.new ≡ cleared (body_in spot.size (spot.place % spot.size) (R.ReadAt.first view.now + length (R.ReadAt.bytes view.now) - spot.place) (read_message_header w.now)) body.old }
-{
-    match MessageHeader::deserialize(w) {
-        Ok((h, rest)) => {
-            let hl = AHEAD.saturating_sub(rest.len());
-            judge(view, body, spot, w, h, hl)
+        let header = &w[0..hl];
+        if n <= AHEAD - hl {
+            return decide(h, self.number, header, &w[hl..hl + n]);
         }
-        Err(_) => Raw::Corrupted,
+        self.judge_long(body, h, header, self.place + hl as u64)
     }
-}
 
-// The message at a place of a view.
-pub(crate) fn read_raw<R: ReadAt>(view: &R, body: &mut [u8], spot: Spot) -> Raw
-    requires sized { is_segment_size spot.size ≡ true }
-    requires room { spot.size ≤ length body.old }
-    ensures value { result ≡ raw_at spot.size spot.number (R.ReadAt.first view.now) (R.ReadAt.bytes view.now) spot.place }
-    ensures body { body.new ≡ cleared (body_read spot.size (R.ReadAt.first view.now) (R.ReadAt.bytes view.now) spot.place) body.old }
-{
-    if !is_entry(spot.size, spot.place % spot.size) {
-        return Raw::Short;
-    }
-    let mut w = [0u8; AHEAD];
-    match view.pread_exact_or_eof(&mut w, spot.place) {
-        Ok(_) => read_window(view, body, spot, &w),
-        Err(_) => Raw::Short,
+    // The message there.
+    #[tactic(auto, unfolding(crate::specs::Raw::raw_at, crate::specs::Raw::body_read))]
+    pub(crate) fn read(&self, body: &mut [u8]) -> Result<Found, NoMessage>
+        requires { self.now.size ≤ length body.old }
+        ensures value { result ≡ raw_at self.now.size self.now.number (R.ReadAt.first self.now.view.now) (R.ReadAt.bytes self.now.view.now) self.now.place }
+        ensures body { body.new ≡ cleared (body_read self.now.size (R.ReadAt.first self.now.view.now) (R.ReadAt.bytes self.now.view.now) self.now.place) body.old }
+    {
+        let size = self.size.bytes();
+        if !is_entry(size, self.place % size) {
+            return Err(NoMessage::Short);
+        }
+        let mut w = [0u8; AHEAD];
+        self.view.pread_exact_or_eof(&mut w, self.place)?;
+        let (h, rest) = MessageHeader::deserialize(&w)?;
+        self.judge(body, &w, h, AHEAD.saturating_sub(rest.len()))
     }
 }
