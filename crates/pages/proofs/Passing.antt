@@ -1,12 +1,12 @@
 -- Steps of the pass over the two tables of a snapshot. Assumes nothing.
-use Rattle.std.proofs.Common.{◌≡◌, ℕ, suc, ◌+◌, ◌-◌, ◌^◌, ◌<◌, ◌≤◌, Bool, true, false, not, ◌&&◌, eqb, leb, ◌⊎◌, List, [], ◌∷◌, length, get_or, take, drop, is_some, Some, None, Option, sym, refl, ap, ◌∙◌, ap₂, add-one, arith, length-drop}
-use Rattle.std.proofs.lemmas.List.{drop_more, drop_all, drop-drop, take_rest}
+use Rattle.std.proofs.Common.{◌≡◌, ℕ, suc, ◌+◌, ◌^◌, ◌<◌, ◌≤◌, Bool, true, false, not, ◌&&◌, eqb, leb, ◌⊎◌, List, [], ◌∷◌, length, get_or, drop, is_some, Some, None, Option, sym, refl, ap, ◌∙◌, add-one, arith}
+use Rattle.std.proofs.lemmas.List.{drop_more, drop_all}
 use Rattle.std.proofs.lemmas.Bool.Decides.{nat_tests}
 use Rattle.pages.specs.declared.page_state.Fragment.{Fragment}
 use Rattle.pages.specs.declared.page_state.PageState.{PageState}
 use Rattle.pages.specs.declared.page_state.PageState.TheVariants.{Uninitialized, Free, Present}
 use Rattle.pages.specs.declared.snapshot.Snapshot.{Snapshot}
-use Rattle.pages.specs.Passes.{own, taken, passes}
+use Rattle.pages.specs.Passes.{own, behind, passes}
 use Rattle.pages.specs.Shown.{items, nested, all_of, none, tidy}
 use Rattle.pages.specs.Snapshots.{snap_of, rises_from, sound_page, sound_pages, no_pages, placed, bare, well_formed, formed}
 
@@ -27,14 +27,14 @@ module _ (i low top : ℕ) (fs : List Fragment) (k : ℕ) where
     own-not e = ap (own i low top) (drop_more fs k d h) ∙ grind (arith, nat_tests)
 
 -- one page
-page_some : (i top n : ℕ) (s : PageState) (ss : List PageState) (fs : List Fragment) → Some n ≡ taken i top s fs
-    → (n ≤ length fs) × (passes i top (s ∷ ss) fs ≡ passes (suc i) top ss (drop n fs))
+page_some : (i top : ℕ) (s : PageState) (ss : List PageState) (fs rest : List Fragment) → Some rest ≡ behind i top s fs
+    → passes i top (s ∷ ss) fs ≡ passes (suc i) top ss rest
 unfolding passes tidy nested sound_pages sound_page rises_from own
-page_some i top n Uninitialized ss fs e = let z : n ≡ 0 = cc in (omega arith, rw z)
-page_some i top n (Free lsn ptr) ss fs e = let z : n ≡ 0 = grind (arith, nat_tests) in (omega arith, rw z (grind (arith, nat_tests)))
-page_some i top n (Present base m) ss fs e = let z : n ≡ m = grind (arith, nat_tests) in (grind (arith, nat_tests), rw z (grind (arith, nat_tests)))
+page_some i top Uninitialized ss fs rest e = let z : rest ≡ fs = cc in rw z
+page_some i top (Free lsn ptr) ss fs rest e = let z : rest ≡ fs = grind (arith, nat_tests) in rw z (grind (arith, nat_tests))
+page_some i top (Present base m) ss fs rest e = let z : rest ≡ drop m fs = grind (arith, nat_tests) in rw z (grind (arith, nat_tests))
 
-page_none : (i top : ℕ) (s : PageState) (ss : List PageState) (fs : List Fragment) → None ≡ taken i top s fs → passes i top (s ∷ ss) fs ≡ false
+page_none : (i top : ℕ) (s : PageState) (ss : List PageState) (fs : List Fragment) → None ≡ behind i top s fs → passes i top (s ∷ ss) fs ≡ false
 unfolding passes tidy nested sound_pages sound_page rises_from own
 page_none i top Uninitialized ss fs e = grind arith
 page_none i top (Free lsn ptr) ss fs e = grind (arith, nat_tests)
@@ -45,30 +45,23 @@ unfolding none
 none_empty [] = refl
 none_empty (f ∷ fs) = grind (arith, nat_tests)
 
--- the pages from the i-th on, with the fragments from `at` on
-module _ (top : ℕ) (ss : List PageState) (fs : List Fragment) {b : Bool} (i at : ℕ) (inside : at ≤ length fs)
-    (inv : passes i top (drop i ss) (drop at fs) ≡ b) where
-  pub passes_all : length ss ≤ i → eqb at (length fs) ≡ b
+-- the pages from the i-th on, with the fragments that are left
+module _ (top : ℕ) (ss : List PageState) (rest : List Fragment) {b : Bool} (i : ℕ) (inv : passes i top (drop i ss) rest ≡ b) where
+  pub passes_all : length ss ≤ i → eqb (length rest) 0 ≡ b
   unfolding passes tidy nested sound_pages
   passes_all h =
-      let e = ap (λ xs. passes i top xs (drop at fs)) (drop_all i ss h) in
-      let l = length-drop at fs in
-      let z = none_empty (drop at fs) in grind (arith, nat_tests)
+      let e = ap (λ xs. passes i top xs rest) (drop_all i ss h) in
+      let z = none_empty rest in grind (arith, nat_tests)
 
   module _ (d : PageState) (h : i < length ss) where
-    pub passes_more : (n : ℕ) → Some n ≡ taken i top (get_or ss i d) (take (length fs - at) (drop at fs))
-        → (at + n ≤ length fs) × (passes (i + 1) top (drop (i + 1) ss) (drop (at + n) fs) ≡ b)
-    passes_more n e =
-        let p = page_some i top n (get_or ss i d) (drop (i + 1) ss) (drop at fs) (e ∙ ap (taken i top (get_or ss i d)) (take_rest fs at)) in
-        let l = length-drop at fs in (
-          omega arith,
-          ap₂ (λ k xs. passes k top (drop (i + 1) ss) xs) (add-one i) (sym (drop-drop n at fs)) ∙ sym p.1 ∙ sym (ap (λ xs. passes i top xs (drop at fs)) (drop_more ss i d h)) ∙ inv,
-        )
+    pub passes_more : (others : List Fragment) → Some others ≡ behind i top (get_or ss i d) rest → passes (i + 1) top (drop (i + 1) ss) others ≡ b
+    passes_more others e =
+        ap (λ k. passes k top (drop (i + 1) ss) others) (add-one i) ∙ sym (page_some i top (get_or ss i d) (drop (i + 1) ss) rest others e)
+        ∙ sym (ap (λ xs. passes i top xs rest) (drop_more ss i d h)) ∙ inv
 
-    pub passes-not : None ≡ taken i top (get_or ss i d) (take (length fs - at) (drop at fs)) → false ≡ b
+    pub passes-not : None ≡ behind i top (get_or ss i d) rest → false ≡ b
     passes-not e =
-        let p = page_none i top (get_or ss i d) (drop (i + 1) ss) (drop at fs) (e ∙ ap (taken i top (get_or ss i d)) (take_rest fs at)) in
-        sym p ∙ sym (ap (λ xs. passes i top xs (drop at fs)) (drop_more ss i d h)) ∙ inv
+        sym (page_none i top (get_or ss i d) (drop (i + 1) ss) rest e) ∙ sym (ap (λ xs. passes i top xs rest) (drop_more ss i d h)) ∙ inv
 
 -- well-formedness, by what is tested
 pub formed_some : (size n : ℕ) (s : Snapshot) → s.stable_lsn ≡ Some n
@@ -88,3 +81,7 @@ pub formed_none : (size : ℕ) (s : Snapshot) → s.stable_lsn ≡ None
     → formed size s ≡ (not (is_some s.active_segment) && (eqb (length s.pages.now) 0 && eqb (length s.fragments.now) 0))
 unfolding formed well_formed snap_of
 formed_none size s e = let b = bare_empty s.active_segment s.pages.now s.fragments.now in grind arith
+
+pub ruleset own_steps = (own_all, own_more, own-not)
+
+pub ruleset passes_steps = (passes_all, passes_more, passes-not)

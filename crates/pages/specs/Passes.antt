@@ -1,8 +1,8 @@
 -- The pass over the two tables of a snapshot, page by page. Assumes nothing.
 --   own i low top fs     the fragments are those of page i, with rising LSNs, from `low` on and below `top`
---   taken i top s fs     how many fragments page i takes from the front, where they are its own and it is sound below `top`
+--   behind i top s fs    the fragments behind those of page i, where these are its own and it is sound below `top`
 --   passes i top ss fs   the fragments are those of the pages from page i on, and these are sound below `top`
-use Rattle.std.specs.Prelude.{ℕ, ◌+◌, Bool, cond, ◌&&◌, List, length, take, Some, None, Option, nat_le, nat_lt}
+use Rattle.std.specs.Prelude.{ℕ, ◌+◌, Bool, if◌then◌else◌, ◌&&◌, List, length, take, drop, Some, None, Option, nat_le, nat_lt}
 use Rattle.pages.specs.declared.page_state.Fragment.{Fragment}
 use Rattle.pages.specs.declared.page_state.PageState.{PageState}
 use Rattle.pages.specs.declared.page_state.PageState.TheVariants.{Uninitialized, Free, Present}
@@ -12,10 +12,11 @@ use Rattle.pages.specs.Snapshots.{rises_from, sound_pages}
 unfoldable pub own : ℕ → ℕ → ℕ → List Fragment → Bool
 own i low top fs = all_of i fs && rises_from low top (items fs)
 
-abbrev pub taken : ℕ → ℕ → PageState → List Fragment → Option ℕ
-taken i top Uninitialized fs = Some 0
-taken i top (Free lsn ptr) fs = cond (nat_lt lsn top) (Some 0) None
-taken i top (Present base n) fs = cond (nat_le n (length fs) && (nat_lt base.0 top && own i (base.0 + 1) top (take n fs))) (Some n) None
+abbrev pub behind : ℕ → ℕ → PageState → List Fragment → Option (List Fragment)
+behind i top Uninitialized fs = Some fs
+behind i top (Free lsn ptr) fs = if nat_lt lsn top then Some fs else None
+behind i top (Present base n) fs =
+    if nat_le n (length fs) && (nat_lt base.0 top && own i (base.0 + 1) top (take n fs)) then Some (drop n fs) else None
 
 unfoldable pub passes : ℕ → ℕ → List PageState → List Fragment → Bool
 passes i top ss fs = tidy i ss fs && sound_pages top (nested ss fs)

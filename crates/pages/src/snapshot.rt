@@ -18,6 +18,7 @@ pub struct Snapshot<'a> {
 
 impl Snapshot<'static> {
     // What is known of a log that was never recovered.
+    #[tactic(auto, unfolding(crate::specs::Snapshots::nothing, crate::specs::Snapshots::snap_of, crate::specs::Shown::nested))]
     pub fn nothing() -> Self
         ensures value { snap_of result ≡ nothing }
         ensures pages { result.pages.now ≡ [] }

@@ -1,5 +1,5 @@
 -- One turn of a walk, over segments and numbers. Assumes nothing.
-use Rattle.std.proofs.Common.{◌≡◌, ℕ, zero, suc, ◌+◌, ◌*◌, ◌/◌, ◌%◌, ◌<◌, ◌≤◌, Bool, true, false, ◌&&◌, eqb, List, [], ◌∷◌, Some, None, Ok, Err, Option, sym, refl, ap, ◌∙◌, subst, div-add-mod', arith}
+use Rattle.std.proofs.Common.{◌≡◌, ℕ, zero, suc, ◌+◌, ◌*◌, ◌/◌, ◌%◌, ◌<◌, ◌≤◌, Bool, true, false, ◌&&◌, eqb, List, [], ◌∷◌, Some, None, Ok, Err, Option, Result, sym, refl, ap, ◌∙◌, subst, div-add-mod', arith}
 use lib.Arith.{digits_mod}
 use Rattle.std.proofs.lemmas.Bool.{cond_both}
 use Rattle.std.proofs.lemmas.Bool.Decides.{nat_tests}
@@ -11,34 +11,34 @@ use Rattle.layout.specs.declared.kind.Meaning.{Meaning}
 use Rattle.layout.specs.declared.kind.Meaning.TheVariants.{Corrupted as NoMessage, Canceled as Passed, Cap as Padding, BatchManifest as Manifest, Record as Records}
 use Rattle.layout.specs.declared.kind.Storage.TheVariants.{Inline as InMessage, Blob as InFile}
 use Rattle.messages.proofs.Spans.{Span, raw_span}
-use Rattle.messages.specs.Raw.{is_entry, raw_at}
+use Rattle.messages.specs.Raw.{Raw, is_entry, raw_at}
 use Rattle.messages.specs.Told.{record_of, told, understood, manifest_told, blob_told, note_told}
 use Rattle.messages.specs.declared.disk_pointer.DiskPtr.TheVariants.{Blob}
 use Rattle.messages.specs.declared.log_read.Found.{Found}
 use Rattle.messages.specs.declared.log_read.LogRead.TheVariants.{Record as Yielded}
-use Rattle.messages.specs.declared.log_read.Raw.{Raw}
-use Rattle.messages.specs.declared.log_read.Raw.TheVariants.{Whole, Corrupted as RawCorrupted, Short as RawShort}
+use Rattle.messages.specs.declared.log_read.NoMessage.TheVariants.{Corrupted as Damaged, Short as Ended}
 use Rattle.messages.specs.declared.log_read.Record.{Record}
+use Rattle.refusals.specs.declared.refusal.Refusal.{Refusal}
 use Rattle.refusals.specs.declared.refusal.Refusal.TheVariants.{Blob as BadBlob}
 use Rattle.scan.specs.Order.{Segment}
 use Rattle.walks.specs.Walk.{past, bounds, turn_of, Exit, released, stopped, failed, follow, Walked, more, settled, segment_bytes, read_in, in_segment}
 use Rattle.walks.specs.declared.turn.Turn.{Turn}
-use Rattle.walks.specs.declared.turn.Turn.TheVariants.{Yield, Pass, Release, Stop, Fail}
+use Rattle.walks.specs.declared.turn.Turn.TheVariants.{Yield, Pass, Release, Stop}
 
 -- ---- a walk goes on behind a message by the message's length
-abbrev Long : Found → Turn → Type 0
-Long f (Yield r) = r.len ≡ f.len
-Long f (Pass n) = n ≡ f.len
-Long f Release = Unit {0}
-Long f Stop = Unit {0}
-Long f (Fail e) = Unit {0}
+abbrev Long : Found → Result Turn Refusal → Type 0
+Long f (Ok (Yield r)) = r.len ≡ f.len
+Long f (Ok (Pass n)) = n ≡ f.len
+Long f (Ok Release) = Unit {0}
+Long f (Ok Stop) = Unit {0}
+Long f (Err e) = Unit {0}
 
-abbrev pub Spans : ℕ → ℕ → Turn → Type 0
-Spans size p (Yield r) = Span size p r.len
-Spans size p (Pass n) = Span size p n
-Spans size p Release = Unit {0}
-Spans size p Stop = Unit {0}
-Spans size p (Fail e) = Unit {0}
+abbrev pub Spans : ℕ → ℕ → Result Turn Refusal → Type 0
+Spans size p (Ok (Yield r)) = Span size p r.len
+Spans size p (Ok (Pass n)) = Span size p n
+Spans size p (Ok Release) = Unit {0}
+Spans size p (Ok Stop) = Unit {0}
+Spans size p (Err e) = Unit {0}
 
 module _ (notes : ℕ → Option Note) (limit : Option ℕ) (last : Bool) where
   note_long : (place lsn : ℕ) (f : Found) (kind : LogKind) (pointer : ℕ) (o : Option Note) → Long f (turn_of limit last (note_told place lsn f kind pointer o))
@@ -55,30 +55,30 @@ module _ (notes : ℕ → Option Note) (limit : Option ℕ) (last : Bool) where
   manifest_long : (place : ℕ) (f : Found) (o : Option Word) → Long f (turn_of limit last (manifest_told place f o))
   unfolding turn_of
   manifest_long place f None = tt
-  manifest_long place f (Some w) = cond_both (bounds w limit) Stop (Pass f.len) (Long f) (λ t. tt) (λ t. refl)
+  manifest_long place f (Some w) = cond_both (bounds w limit) Stop (Pass f.len) (λ t. Long f (Ok t)) (λ t. tt) (λ t. refl)
 
   told_long : (place lsn : ℕ) (f : Found) (m : Meaning) → Long f (turn_of limit last (told notes place lsn f m))
   unfolding turn_of
-  told_long place lsn f NoMessage = cond_both last Release Stop (Long f) (λ t. tt) (λ t. tt)
+  told_long place lsn f NoMessage = cond_both last Release Stop (λ t. Long f (Ok t)) (λ t. tt) (λ t. tt)
   told_long place lsn f Passed = refl
   told_long place lsn f Padding = tt
   told_long place lsn f Manifest = manifest_long place f f.word
   told_long place lsn f (Records kind InMessage) = refl
   told_long place lsn f (Records kind InFile) = blob_long place lsn f kind f.word
 
-  long_span : (size p : ℕ) (f : Found) (t : Turn) → Span size p f.len → Long f t → Spans size p t
-  long_span size p f (Yield r) s l = record { some = omega (arith, s.some); within = omega (arith, s.within) }
-  long_span size p f (Pass n) s l = record { some = omega (arith, s.some); within = omega (arith, s.within) }
-  long_span size p f Release s l = tt
-  long_span size p f Stop s l = tt
-  long_span size p f (Fail e) s l = tt
+  long_span : (size p : ℕ) (f : Found) (t : Result Turn Refusal) → Span size p f.len → Long f t → Spans size p t
+  long_span size p f (Ok (Yield r)) s l = record { some = omega (arith, s.some); within = omega (arith, s.within) }
+  long_span size p f (Ok (Pass n)) s l = record { some = omega (arith, s.some); within = omega (arith, s.within) }
+  long_span size p f (Ok Release) s l = tt
+  long_span size p f (Ok Stop) s l = tt
+  long_span size p f (Err e) s l = tt
 
   raw-spans : (size number first place lsn : ℕ) (bytes : List ℕ) (x : Raw) → raw_at size number first bytes place ≡ x → Spans size (place % size) (turn_of limit last (understood notes place lsn x))
   unfolding turn_of
-  raw-spans size number first place lsn bytes (Whole f) e =
+  raw-spans size number first place lsn bytes (Ok f) e =
       long_span size (place % size) f (turn_of limit last (told notes place lsn f (meant f.kind))) (raw_span size number first place bytes f e) (told_long place lsn f (meant f.kind))
-  raw-spans size number first place lsn bytes RawCorrupted e = cond_both last Release Stop (Spans size (place % size)) (λ t. tt) (λ t. tt)
-  raw-spans size number first place lsn bytes RawShort e = tt
+  raw-spans size number first place lsn bytes (Err Damaged) e = cond_both last Release Stop (λ t. Spans size (place % size) (Ok t)) (λ t. tt) (λ t. tt)
+  raw-spans size number first place lsn bytes (Err Ended) e = tt
 
 -- a place of a segment has the progress that was added
 progress_is : (size value p : ℕ) → value % size ≡ 0 → p < size → (value + p) % size ≡ p
@@ -90,14 +90,14 @@ progress_is size value p a h =
 pub entry_in : (size p : ℕ) → is_entry size p ≡ true → p + 32 ≤ size
 entry_in size p h = grind (arith, nat_tests)
 
-pub follow_same : (p : ℕ) (t : Turn) (on on2 : ℕ → List Record × Exit) → ((r : Record) → t ≡ Yield r → on (p + r.len) ≡ on2 (p + r.len)) → ((n : ℕ) → t ≡ Pass n → on (p + n) ≡ on2 (p + n))
+pub follow_same : (p : ℕ) (t : Result Turn Refusal) (on on2 : ℕ → List Record × Exit) → ((r : Record) → t ≡ Ok (Yield r) → on (p + r.len) ≡ on2 (p + r.len)) → ((n : ℕ) → t ≡ Ok (Pass n) → on (p + n) ≡ on2 (p + n))
     → follow p t on ≡ follow p t on2
 unfolding follow
-follow_same p (Yield r) on on2 f g = ap (λ (x : List Record × Exit). (r ∷ x.0, x.1)) (f r refl)
-follow_same p (Pass n) on on2 f g = g n refl
-follow_same p Release on on2 f g = refl
-follow_same p Stop on on2 f g = refl
-follow_same p (Fail e) on on2 f g = refl
+follow_same p (Ok (Yield r)) on on2 f g = ap (λ (x : List Record × Exit). (r ∷ x.0, x.1)) (f r refl)
+follow_same p (Ok (Pass n)) on on2 f g = g n refl
+follow_same p (Ok Release) on on2 f g = refl
+follow_same p (Ok Stop) on on2 f g = refl
+follow_same p (Err e) on on2 f g = refl
 
 pub more_nil : (w : Walked) → more [] w ≡ w
 unfolding more
@@ -113,7 +113,7 @@ settled-cons s ss on r x = go x.1
     go (failed p e) = refl
 
 module _ (notes : ℕ → Option Note) (size : ℕ) (dev : List ℕ) (limit : Option ℕ) (last : Bool) (s : Segment) (aligned : s.value % size ≡ 0) where
-  abbrev pub turn_at : ℕ → Turn
+  abbrev pub turn_at : ℕ → Result Turn Refusal
   turn_at p = turn_of limit last (read_in notes size dev s p)
 
   pub turn-spans : (p : ℕ) → p < size → Spans size p (turn_at p)

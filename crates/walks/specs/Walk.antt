@@ -10,7 +10,7 @@
 --   Walked                  what a walk came to
 --   settled s ss on x       what follows a segment that was left by x, where `on` walks the segments behind it
 --   walk ..                 the walk over segments, from a current LSN
-use Rattle.std.specs.Prelude.{ℕ, zero, suc, ◌+◌, ◌/◌, Bool, true, false, cond, not, ◌&&◌, List, [], ◌∷◌, ◌++◌, take, drop, Some, None, Ok, Err, Option, Result, nat_le}
+use Rattle.std.specs.Prelude.{ℕ, zero, suc, ◌+◌, ◌/◌, Bool, true, false, if◌then◌else◌, not, ◌&&◌, List, [], ◌∷◌, ◌++◌, take, drop, Some, None, Ok, Err, Option, Result, nat_le}
 use Rattle.blobs.specs.declared.note.Note.{Note}
 use Rattle.codec.specs.Fields.{below}
 use Rattle.codec.specs.declared.word.Word.{Word}
@@ -22,7 +22,7 @@ use Rattle.messages.specs.declared.log_read.Record.{Record}
 use Rattle.refusals.specs.declared.refusal.Refusal.{Refusal}
 use Rattle.scan.specs.Order.{Segment}
 use Rattle.walks.specs.declared.turn.Turn.{Turn}
-use Rattle.walks.specs.declared.turn.Turn.TheVariants.{Yield, Pass, Release, Stop, Fail}
+use Rattle.walks.specs.declared.turn.Turn.TheVariants.{Yield, Pass, Release, Stop}
 
 -- with no limit nothing is past it
 unfoldable pub past : ℕ → Option ℕ → Bool
@@ -34,27 +34,27 @@ unfoldable pub bounds : Word → Option ℕ → Bool
 bounds w limit = not (below w.bits) && past w.bits limit
 
 -- `last` says that it is the last walk
-unfoldable pub turn_of : Option ℕ → Bool → Result LogRead Refusal → Turn
-turn_of limit last (Ok (Yielded r)) = Yield r
-turn_of limit last (Ok (Canceled n)) = Pass n
-turn_of limit last (Ok (Dangling n)) = Pass n
-turn_of limit last (Ok (BatchManifest w n)) = cond (bounds w limit) Stop (Pass n)
-turn_of limit last (Ok Cap) = Release
-turn_of limit last (Ok Corrupted) = cond last Release Stop
-turn_of limit last (Ok Short) = Stop
-turn_of limit last (Err e) = Fail e
+unfoldable pub turn_of : Option ℕ → Bool → Result LogRead Refusal → Result Turn Refusal
+turn_of limit last (Ok (Yielded r)) = Ok (Yield r)
+turn_of limit last (Ok (Canceled n)) = Ok (Pass n)
+turn_of limit last (Ok (Dangling n)) = Ok (Pass n)
+turn_of limit last (Ok (BatchManifest w n)) = Ok (if bounds w limit then Stop else Pass n)
+turn_of limit last (Ok Cap) = Ok Release
+turn_of limit last (Ok Corrupted) = Ok (if last then Release else Stop)
+turn_of limit last (Ok Short) = Ok Stop
+turn_of limit last (Err e) = Err e
 
 pub data Exit : Type 0 where
   released : ℕ → Exit
   stopped : ℕ → Exit
   failed : ℕ → Refusal → Exit
 
-unfoldable pub follow : ℕ → Turn → (ℕ → List Record × Exit) → List Record × Exit
-follow p (Yield r) on = (r ∷ (on (p + r.len)).0, (on (p + r.len)).1)
-follow p (Pass n) on = on (p + n)
-follow p Release on = ([], released p)
-follow p Stop on = ([], stopped p)
-follow p (Fail e) on = ([], failed p e)
+unfoldable pub follow : ℕ → Result Turn Refusal → (ℕ → List Record × Exit) → List Record × Exit
+follow p (Ok (Yield r)) on = (r ∷ (on (p + r.len)).0, (on (p + r.len)).1)
+follow p (Ok (Pass n)) on = on (p + n)
+follow p (Ok Release) on = ([], released p)
+follow p (Ok Stop) on = ([], stopped p)
+follow p (Err e) on = ([], failed p e)
 
 pub record Walked : Type 0 where
   pub records : List Record

@@ -6,7 +6,7 @@ use codec::{Lsn, Word};
 use messages::{LogRead, Record};
 use refusals::Refusal;
 
-#[derive(Clone, Copy)]
+#[derive(Clone, Copy, PartialEq, Eq, Debug)]
 pub enum Turn {
     Yield(Record),
     // A message of this length is passed.
@@ -14,55 +14,47 @@ pub enum Turn {
     // The held segment is let go.
     Release,
     Stop,
-    Fail(Refusal),
 }
 
 // Whether an LSN is at the limit or above.
+#[tactic(auto, unfolding(crate::specs::Walk::past))]
 pub fn past(lsn: Lsn, limit: Option<Lsn>) -> bool
     ensures { result ≡ past lsn limit }
 {
-    match limit {
-        None => false,
-        Some(end) => end <= lsn,
-    }
+    limit.is_some_and(|end| end <= lsn)
 }
 
 // Whether a manifest's LSN is past the limit: one below zero never is.
+#[tactic(auto, unfolding(crate::specs::Walk::bounds))]
 fn bounds(word: Word, limit: Option<Lsn>) -> bool
     ensures { result ≡ bounds word limit }
 {
-    match word.lsn() {
-        None => false,
-        Some(lsn) => past(lsn, limit),
-    }
+    word.lsn().is_some_and(|lsn| past(lsn, limit))
 }
 
+#[tactic(auto, unfolding(crate::specs::Walk::turn_of))]
 fn turn_at(limit: Option<Lsn>, last: bool, read: LogRead) -> Turn
-    ensures { result ≡ turn_of limit last (Ok read) }
+    ensures { Ok result ≡ turn_of limit last (Ok read) }
 {
     match read {
         LogRead::Record(record) => Turn::Yield(record),
-        LogRead::Canceled(len) => Turn::Pass(len),
-        LogRead::Dangling(len) => Turn::Pass(len),
-        LogRead::BatchManifest(word, len) => {
-            if bounds(word, limit) {
-                Turn::Stop
-            } else {
-                Turn::Pass(len)
-            }
-        }
+        LogRead::Canceled(len) | LogRead::Dangling(len) => Turn::Pass(len),
+        LogRead::BatchManifest(word, _) if bounds(word, limit) => Turn::Stop,
+        LogRead::BatchManifest(_, len) => Turn::Pass(len),
+        LogRead::Corrupted if last => Turn::Release,
         LogRead::Cap => Turn::Release,
-        LogRead::Corrupted => { if last { Turn::Release } else { Turn::Stop } }
-        LogRead::Short => Turn::Stop,
+        LogRead::Corrupted | LogRead::Short => Turn::Stop,
     }
 }
 
-// `last` says that it is the last walk of a recovery.
-pub fn turn_of(limit: Option<Lsn>, last: bool, read: Result<LogRead, Refusal>) -> Turn
+// `last` says that it is the last walk of a recovery. A fault of the read stays one.
+#[tactic(auto, unfolding(crate::specs::Walk::turn_of))]
+pub fn turn_of(
+    limit: Option<Lsn>,
+    last: bool,
+    read: Result<LogRead, Refusal>,
+) -> Result<Turn, Refusal>
     ensures { result ≡ turn_of limit last read }
 {
-    match read {
-        Ok(read) => turn_at(limit, last, read),
-        Err(e) => Turn::Fail(e),
-    }
+    Ok(turn_at(limit, last, read?))
 }
