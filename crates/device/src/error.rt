@@ -8,22 +8,18 @@ use std::alloc::AllocError;
 #[derive(Clone, Copy, PartialEq, Eq, Debug)]
 pub enum DeviceError {
     // The block size is no power of two from 256 to 1,048,576.
-    BlockSize,
+    BlockSize = 1,
     // A wanted byte lies outside, or a write crosses a block border or passes the capacity.
-    Outside,
+    Outside = 10,
     // A write to a block that is not loose, with no spare one left.
-    NoSpare,
+    NoSpare = 29,
 }
 
 impl DeviceError {
     pub fn number(self) -> u8
         ensures { result ≡ device_number self }
     {
-        match self {
-            DeviceError::BlockSize => 1,
-            DeviceError::Outside => 10,
-            DeviceError::NoSpare => 29,
-        }
+        self as u8
     }
 }
 

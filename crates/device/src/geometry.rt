@@ -5,13 +5,12 @@ ghost use Rattle.device.specs.Writes.{fits};
 ghost use Rattle.device.specs.declared.error.DeviceError.TheVariants.{BlockSize};
 
 use crate::DeviceError;
-use layout::is_segment_size;
+use layout::SegmentSize;
 
 #[derive(Clone, Copy, Drop)]
 pub struct Geometry {
     capacity: u64,
-    block_size: u64,
-    ghost sized: { (is_segment_size block_size ≡ true) × (0 < block_size) },
+    block_size: SegmentSize,
 }
 
 impl Geometry {
@@ -21,9 +20,7 @@ impl Geometry {
             (λ g. (is_segment_size block_size ≡ true) × (g.capacity ≡ capacity) × (g.block_size ≡ block_size))
             (λ e. (is_segment_size block_size ≡ false) × (e ≡ BlockSize)) }
     {
-        if !is_segment_size(block_size) {
-            return Err(DeviceError::BlockSize);
-        }
+        let block_size = SegmentSize::new(block_size).ok_or(DeviceError::BlockSize)?;
         Ok(Geometry {
             capacity,
             block_size,
@@ -36,9 +33,8 @@ impl Geometry {
         self.capacity
     }
 
-    pub fn block_size(&self) -> u64
-        ensures value { result ≡ self.now.block_size }
-        ensures bound { (is_segment_size result ≡ true) × (0 < result) }
+    pub fn block_size(&self) -> SegmentSize
+        ensures { result ≡ self.now.block_size }
     {
         self.block_size
     }
@@ -51,7 +47,8 @@ impl Geometry {
         if n > self.capacity || at > self.capacity - n {
             return false;
         }
+        let size = self.block_size.bytes();
         let last = at + n.saturating_sub(1);
-        at / self.block_size == last / self.block_size
+        at / size == last / size
     }
 }

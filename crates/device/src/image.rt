@@ -1,11 +1,12 @@
 // A device whose bytes stand in one buffer. All of its blocks are loose.
-ghost use Rattle.std.specs.Prelude.{◌≡◌, ◌+◌, ◌-◌, ◌≤◌, max, true, [], ◌++◌, length, replicate, IfOk, IfErr, if◌then◌else◌, vec_len, vec_capacity, nat_le};
+ghost use Rattle.std.specs.Prelude.{◌≡◌, ◌+◌, ◌-◌, ◌≤◌, max, true, [], ◌++◌, length, replicate, IfOk, IfErr, if◌then◌else◌, vec_len, vec_capacity, nat_le, refl};
 ghost use Rattle.layout.specs.Sizes.{is_segment_size};
 ghost use Rattle.device.specs.Writes.{laid};
 ghost use Rattle.device.specs.declared.error.DeviceError.TheVariants.{BlockSize, Outside};
 ghost use Rattle.device.specs.declared.error.SetupError.TheVariants.{Memory, Refused};
 
 use crate::{BasedBuf, Device, DeviceError, Geometry, ReadAt, SetupError};
+use layout::SegmentSize;
 use std::alloc::Global;
 
 // The buffer has room for the capacity from the start, so that no write wants memory.
@@ -79,6 +80,15 @@ impl Image {
         self.buf.as_slice()
     }
 
+    fn whole(&self) -> BasedBuf<'_>
+        ensures { (result.buf.now ≡ self.now.buf.items) × (result.offset ≡ 0) }
+    {
+        BasedBuf {
+            buf: self.bytes(),
+            offset: 0,
+        }
+    }
+
     pub fn into_buffer(self) -> Vec<u8>
         ensures { result ≡ self.buf }
     {
@@ -93,19 +103,11 @@ impl ReadAt for Image {
     ghost bytes = { λ d. d.buf.items };
 
     fn pread_exact(&self, dst: &mut [u8], at: u64) -> Result<(), DeviceError> {
-        let all = BasedBuf {
-            buf: self.buf.as_slice(),
-            offset: 0,
-        };
-        all.pread_exact(dst, at)
+        self.whole().pread_exact(dst, at)
     }
 
     fn pread_exact_or_eof(&self, dst: &mut [u8], at: u64) -> Result<usize, DeviceError> {
-        let all = BasedBuf {
-            buf: self.buf.as_slice(),
-            offset: 0,
-        };
-        all.pread_exact_or_eof(dst, at)
+        self.whole().pread_exact_or_eof(dst, at)
     }
 }
 
@@ -126,7 +128,7 @@ impl Device for Image {
         self.geometry.capacity()
     }
 
-    fn block_size(&self) -> u64 {
+    fn block_size(&self) -> SegmentSize {
         self.geometry.block_size()
     }
 
@@ -148,4 +150,6 @@ impl Device for Image {
         lay(&mut self.buf, src, at as usize);
         Ok(())
     }
+
+    ghost base = { λ _. refl };
 }
