@@ -1,7 +1,7 @@
 -- Adding a file to a bank. Assumes nothing.
 --   extent_at p at n     the entry of a file of n bytes that begins at `at`
 --   add_reply ..         whether the bytes left hold it, then whether the table takes its pointer
-use Rattle.std.specs.Prelude.{ℕ, ◌+◌, cond, List, Ok, Err, Result, nat_le}
+use Rattle.std.specs.Prelude.{ℕ, ◌+◌, if◌then◌else◌, List, Ok, Err, Result, nat_le}
 use Rattle.tables.specs.Faults.{reply}
 use Rattle.tables.specs.declared.entry.Entry.{Entry}
 use Rattle.tables.specs.declared.fault.TableFault.{TableFault}
@@ -17,4 +17,4 @@ taken (Ok u) = Ok u
 taken (Err f) = Err (Table f)
 
 abbrev pub add_reply : ℕ → ℕ → ℕ → ℕ → ℕ → List (Entry Extent) → Result (Unit {0}) BankFault
-add_reply size used n capacity p es = cond (nat_le (used + n) size) (taken (reply capacity p es)) (Err NoRoom)
+add_reply size used n capacity p es = if nat_le (used + n) size then taken (reply capacity p es) else Err NoRoom

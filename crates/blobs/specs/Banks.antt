@@ -4,7 +4,7 @@
 --   banked bytes es p   a bank's reply
 --   Files               files with their pointers, the newest first
 --   Holds, Knows        a bank has these files; the entries of a register are what they say
-use Rattle.std.specs.Prelude.{◌≡◌, ℕ, ◌+◌, ◌≤◌, cond, List, [], ◌∷◌, length, take, drop, Some, None, Option, ◌==◌, nat_le}
+use Rattle.std.specs.Prelude.{◌≡◌, ℕ, ◌+◌, ◌≤◌, if◌then◌else◌, List, [], ◌∷◌, length, take, drop, Some, None, Option, ◌==◌, nat_le}
 use Rattle.std.specs.Option.{option_map}
 use Rattle.tables.specs.Entries.{find}
 use Rattle.tables.specs.declared.entry.Entry.{Entry}
@@ -16,7 +16,7 @@ abbrev pub cut : List ℕ → Extent → List ℕ
 cut bytes e = take e.len (drop e.start bytes)
 
 abbrev pub note_at : List ℕ → Extent → Note
-note_at bytes e = cond (nat_le (e.start + e.len) (length bytes)) (note_of (cut bytes e)) damaged
+note_at bytes e = if nat_le (e.start + e.len) (length bytes) then note_of (cut bytes e) else damaged
 
 abbrev pub banked : List ℕ → List (Entry Extent) → ℕ → Option Note
 banked bytes es p = option_map (note_at bytes) (find p es)
@@ -26,7 +26,7 @@ Files = List (ℕ × List ℕ)
 
 unfoldable pub file_of : ℕ → Files → Option (List ℕ)
 file_of p [] = None
-file_of p (f ∷ fs) = cond (f.0 == p) (Some f.1) (file_of p fs)
+file_of p (f ∷ fs) = if f.0 == p then Some f.1 else file_of p fs
 
 -- each pointer's extent holds its newest file, within the bytes in use
 pub record Holds (used : ℕ) (bytes : List ℕ) (es : List (Entry Extent)) (fs : Files) : Type 0 where

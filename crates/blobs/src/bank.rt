@@ -16,17 +16,6 @@ pub struct Bank<'a> {
     extents: &'a SortedTable<'a, Extent>,
 }
 
-// What the file in an extent says; one that is not whole among the bytes is damaged.
-fn read_extent(files: &[u8], extent: Extent) -> Note
-    ensures { result ≡ note_at files.now extent }
-{
-    let Extent { start, len } = extent;
-    if start > files.len() || len > files.len() - start {
-        return Note::DAMAGED;
-    }
-    read_blob(&files[start..start + len])
-}
-
 impl<'a> Bank<'a> {
     pub fn new(files: &'a [u8], extents: &'a SortedTable<'a, Extent>) -> Bank<'a>
         ensures files { result.files.now ≡ files.now }
@@ -45,6 +34,7 @@ impl<'a> BlobSource for Bank<'a> {
         ensures alike { (used : ℕ) (fs : Files) (ns : List (Entry Note)) → Holds used self.now.files.now (contents self.now.extents.now) fs → Knows ns fs → result ≡ find pointer ns }
     {
         let extent = self.extents.find(pointer)?;
-        Some(read_extent(self.files, extent))
+        let file = extent.bytes_in(self.files);
+        Some(file.map_or(Note::DAMAGED, read_blob))
     }
 }

@@ -10,6 +10,7 @@ use crate::{BankFault, Extent};
 use codec::has_room;
 use tables::SortedTable;
 
+// The buffer is lent and not a vector: no call allocates.
 #[derive(Drop)]
 pub struct BlobFiles<'a> {
     bytes: &'a mut [u8],

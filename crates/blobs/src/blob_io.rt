@@ -13,11 +13,11 @@ pub fn read_blob(file: &[u8]) -> Note
     let Ok((stored, content)) = u32::deserialize(file) else {
         return Note::DAMAGED;
     };
-    if content.is_empty() {
+    let Some(&kind) = content.first() else {
         return Note::DAMAGED;
-    }
+    };
     Note {
-        kind: content[0],
+        kind,
         sound: stored == checksum(content),
     }
 }

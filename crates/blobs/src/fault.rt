@@ -4,7 +4,7 @@ ghost use Rattle.blobs.specs.declared.fault.BankFault.TheVariants.{Table};
 
 use tables::TableFault;
 
-#[derive(Clone, Copy, Debug)]
+#[derive(Clone, Copy, PartialEq, Eq, Debug)]
 pub enum BankFault {
     // The buffer has too few bytes left.
     NoRoom,

@@ -1,4 +1,7 @@
 // What is known of a blob.
+ghost use Rattle.std.specs.Prelude.{◌≡◌, ◌+◌, length, Some, None, nat_le, if◌then◌else◌};
+ghost use Rattle.std.specs.Option.{option_map};
+ghost use Rattle.blobs.specs.Banks.{cut};
 
 // The kind in its file, and whether the file is whole.
 #[derive(Clone, Copy, PartialEq, Eq, Debug)]
@@ -16,8 +19,17 @@ impl Note {
 }
 
 // Where a file stands in a bank: its first byte and its length.
-#[derive(Clone, Copy)]
+#[derive(Clone, Copy, PartialEq, Eq, Debug)]
 pub struct Extent {
     pub start: usize,
     pub len: usize,
+}
+
+impl Extent {
+    // Its bytes, where all of them are there.
+    pub(crate) fn bytes_in(self, files: &[u8]) -> Option<&[u8]>
+        ensures { option_map (λ s. s.now) result ≡ (if nat_le (self.start + self.len) (length files.now) then Some (cut files.now self) else None) }
+    {
+        files.get(self.start..)?.get(..self.len)
+    }
 }

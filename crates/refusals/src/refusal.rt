@@ -1,6 +1,9 @@
 // The causes, by name.
 ghost use Rattle.std.specs.Prelude.{◌≡◌};
 ghost use Rattle.refusals.specs.Numbers.{number_of, fault_of};
+ghost use Rattle.refusals.specs.declared.refusal.Refusal.TheVariants.{Buffer};
+
+use tables::TableFault;
 
 // Where in a recovery a fault was met.
 #[derive(Clone, Copy, PartialEq, Eq, Debug)]
@@ -55,6 +58,16 @@ pub enum Refusal {
     NoSpare,
     // An attached log has to be recovered first.
     NotRecovered,
+}
+
+impl From<TableFault> for Refusal {
+    ghost from_gives = { λ _ r. r ≡ Buffer };
+
+    fn from(fault: TableFault) -> Refusal {
+        match fault {
+            TableFault::Full => Refusal::Buffer,
+        }
+    }
 }
 
 impl Refusal {

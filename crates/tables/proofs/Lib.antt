@@ -1,8 +1,8 @@
+pub mod Fills
 pub mod Moves
 pub mod Steps
 pub mod Ranks
-pub mod Halves
+pub mod Searches
 pub mod Puts
-pub mod Replies
 pub mod Layouts
 pub mod Keys

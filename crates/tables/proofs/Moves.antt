@@ -1,25 +1,16 @@
 -- Items of a slice moved by one place. Assumes nothing.
-use Rattle.std.proofs.Common.{◌≡◌, ℕ, ◌+◌, ◌-◌, ◌<◌, ◌≤◌, List, [], ◌∷◌, ◌++◌, length, get_or, take, drop, set, replicate, sym, ap, ◌∙◌, ap₂, append_assoc, arith, length-append, length-drop, take-append-drop}
-use lib.ListN.{length-replicate}
-use borrow.Rule.Slice.PartMut.{put_mid, post_of}
+use Rattle.std.proofs.Common.{◌≡◌, ℕ, ◌+◌, ◌-◌, ◌<◌, ◌≤◌, List, [], ◌∷◌, ◌++◌, length, get_or, take, drop, set, sym, ap, ◌∙◌, ap₂, append_assoc, arith, length-append, length-drop, take-append-drop}
+use borrow.Rule.Slice.PartMut.{put_mid}
 use Rattle.std.specs.List.{insert}
-use Rattle.std.proofs.lemmas.List.{drop_more, set_at, take_at, drop_at, length-take-le, replicate_more, drop_all, append-nil}
+use Rattle.std.proofs.lemmas.List.{drop_more, set_at, take_at, drop_at, length-take-le}
 
 module _ {X : Type 0} where
-  -- a loop that writes y over each item: one turn, and its end
-  pub fill_more : (xs ys : List X) (i : ℕ) (y : X) → i < length xs → ys ≡ replicate i y ++ drop i xs → set ys i y ≡ replicate (i + 1) y ++ drop (i + 1) xs
-  fill_more xs ys i y h is =
-      ap (λ l. set l i y) (is ∙ ap (λ l. replicate i y ++ l) (drop_more xs i y h))
-      ∙ set_at (replicate i y) (get_or xs i y) (drop (i + 1) xs) y i (length-replicate i y)
-      ∙ sym (append_assoc (replicate i y) (y ∷ []) (drop (i + 1) xs))
-      ∙ ap (λ l. l ++ drop (i + 1) xs) (replicate_more i y)
+  -- the k items from `at` on, after `rotate_right(1)`
+  abbrev pub Turned : ℕ → ℕ → List X → List X → Type 0
+  Turned at k xs last = last ≡ drop (length (take k (drop at xs)) - 1) (take k (drop at xs)) ++ take (length (take k (drop at xs)) - 1) (take k (drop at xs))
 
-  pub fill_all : (xs ys : List X) (i : ℕ) (y : X) → i ≡ length xs → ys ≡ replicate i y ++ drop i xs → ys ≡ replicate (length xs) y
-  fill_all xs ys i y h is = is ∙ ap₂ (λ k l. replicate k y ++ l) h (drop_all i xs (omega arith)) ∙ append-nil (replicate (length xs) y)
-
-  -- `s[n] = x; s[at..n + 1].rotate_right(1)`
-  pub inserted_by : (xs last : List X) (at n : ℕ) (x : X) → at ≤ n → n < length xs
-      → last ≡ drop (length (take (n + 1 - at) (drop at (set xs n x))) - 1) (take (n + 1 - at) (drop at (set xs n x))) ++ take (length (take (n + 1 - at) (drop at (set xs n x))) - 1) (take (n + 1 - at) (drop at (set xs n x)))
+  -- `s[n] = x; s[at..=n].rotate_right(1)`
+  pub inserted_by : (xs last : List X) (at n : ℕ) (x : X) → at ≤ n → n < length xs → Turned at (n + 1 - at) (set xs n x) last
       → put_mid at (n + 1 - at) (set xs n x) last ≡ insert (take n xs) at x ++ drop (n + 1) xs
   inserted_by xs last at n x le lt e =
       let A = take at (take n xs) in
@@ -46,16 +37,8 @@ module _ {X : Type 0} where
       in
       ap₂ ◌++◌ front (ap₂ ◌++◌ turned rest) ∙ sym (append_assoc A (x ∷ M) R)
 
-  -- `s[0..n].rotate_left(1); s[n - 1] = y`
-  pub removed_by : (xs last : List X) (n : ℕ) (y : X) → 0 < n → n ≤ length xs → last ≡ drop 1 (take (n - 0) xs) ++ take 1 (take (n - 0) xs)
-      → set (last ++ post_of 0 (n - 0) xs) (n - 1) y ≡ drop 1 (take n xs) ++ y ∷ drop n xs
-  removed_by xs last n y some within e =
-      let z : n - 0 ≡ n = omega arith in
-      let T = take n xs in
-      let lenT : length T ≡ n = length-take-le n xs within in
-      let one : take 1 T ≡ get_or T 0 y ∷ [] = ap (take 1) (drop_more T 0 y (omega arith)) in
-      let lenD : length (drop 1 T) ≡ n - 1 = length-drop 1 T ∙ omega arith in
-      let is : last ≡ drop 1 T ++ (get_or T 0 y ∷ []) = e ∙ ap (λ k. drop 1 (take k xs) ++ take 1 (take k xs)) z ∙ ap (λ l. drop 1 T ++ l) one in
-      ap₂ (λ l k. set (l ++ drop k xs) (n - 1) y) is z
-      ∙ ap (λ l. set l (n - 1) y) (append_assoc (drop 1 T) (get_or T 0 y ∷ []) (drop n xs))
-      ∙ set_at (drop 1 T) (get_or T 0 y) (drop n xs) y (n - 1) lenD
+  -- `s[..n].rotate_left(1); s[n - 1] = y`, where es are the first n items and rest are those behind them
+  pub removed_by : (es turned rest : List X) (at : ℕ) (y : X) → 0 < length es → length (drop 1 es) ≡ at → turned ≡ drop 1 es ++ take 1 es → set (turned ++ rest) at y ≡ drop 1 es ++ y ∷ rest
+  removed_by [] turned rest at y some len is = absurd (omega arith)
+  removed_by (e ∷ es) turned rest at y some len is =
+      ap (λ l. set (l ++ rest) at y) is ∙ ap (λ l. set l at y) (append_assoc es (e ∷ []) rest) ∙ set_at es e rest y at len

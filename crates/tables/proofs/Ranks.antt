@@ -1,8 +1,9 @@
 -- Keys that rise: where a key stands, and what is found there. Assumes nothing.
-use Rattle.std.proofs.Common.{◌≡◌, ℕ, zero, suc, ◌<◌, ◌≤◌, true, List, [], ◌∷◌, length, get_or, is_some, Some, None, sym, refl, ap, ◌∙◌, subst, ⊎_elim, le_of_suc-le-suc, not-suc-le-zero, arith}
+use Rattle.std.proofs.Common.{◌≡◌, ℕ, zero, suc, ◌<◌, ◌≤◌, true, List, [], ◌∷◌, length, get_or, is_some, Some, None, sym, refl, ap, ◌∙◌, subst, ⊎_elim, le_of_suc-le-suc, not-suc-le-zero, arith, Result, Ok, Err}
+use Rattle.std.specs.Result.{result_ok}
 use Rattle.std.proofs.lemmas.Bool.{cases_lt, cases_order, false≢true}
 use Rattle.tables.specs.declared.entry.Entry.{Entry}
-use Rattle.tables.specs.Entries.{below, rising, find, rank}
+use Rattle.tables.specs.Entries.{below, rising, find, rank, Located}
 use Rattle.tables.proofs.Steps.{below_first, below_more, rising_parts, find_first, find_more, rank_first, rank_more}
 
 module _ {V : Type 0} where
@@ -91,3 +92,8 @@ module _ {V : Type 0} where
       ∙ find_at k (rank k es) es d (rising_parts e es o).1 refl (sym (ap is_some more) ∙ s) ∙ sym more)
       (λ gt. absurd (false≢true (sym (ap is_some (below_none k (e ∷ es) (below_more e es k gt) o)) ∙ s))))
       (cases_order e.key k)
+
+  -- what is read where a search ended, if it found the key
+  pub find_located : (k at : ℕ) (es : List (Entry V)) (r : Result ℕ ℕ) (d : Entry V) → rising es ≡ true → Located k es r → result_ok r ≡ Some at → Some (get_or es at d).value ≡ find k es
+  find_located k at es (Ok i) d o l is = let same : i ≡ at = cc in ap (λ n. Some (get_or es n d).value) (sym same) ∙ find_at k i es d o l.1 l.2
+  find_located k at es (Err i) d o l is = cc

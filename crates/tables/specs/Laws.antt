@@ -1,5 +1,5 @@
 -- What the definitions on a map come to, in the words of a map: what is found, in which order, and how many keys there are. Assumes nothing.
-use Rattle.std.specs.Prelude.{◌≡◌, ℕ, ◌+◌, ◌<◌, ◌≤◌, true, cond, List, ◌∷◌, length, is_some, Some, None, ◌≢◌}
+use Rattle.std.specs.Prelude.{◌≡◌, ℕ, ◌+◌, ◌<◌, ◌≤◌, true, if◌then◌else◌, List, ◌∷◌, length, is_some, Some, None, ◌≢◌}
 use Rattle.std.specs.List.{slice_get}
 use Rattle.tables.specs.declared.entry.Entry.{Entry}
 use Rattle.tables.specs.Entries.{rising, find, put}
@@ -17,4 +17,4 @@ pub record Laws (V : Type 0) : Type 0 where
   pub apart : (es : List (Entry V)) (i j : ℕ) (d e : Entry V) → rising es ≡ true → slice_get es i ≡ Some d → slice_get es j ≡ Some e → i < j → d.key < e.key
   pub placed : (es : List (Entry V)) (i : ℕ) (e : Entry V) → rising es ≡ true → slice_get es i ≡ Some e → find e.key es ≡ Some e.value
   pub stands : (es : List (Entry V)) (k : ℕ) (v : V) → find k es ≡ Some v → (i : ℕ) × (i < length es) × (slice_get es i ≡ Some (record { key = k; value = v }))
-  pub counted : (x : Entry V) (es : List (Entry V)) → rising es ≡ true → length (put x es) ≡ cond (is_some (find x.key es)) (length es) (length es + 1)
+  pub counted : (x : Entry V) (es : List (Entry V)) → rising es ≡ true → length (put x es) ≡ (if is_some (find x.key es) then length es else length es + 1)

@@ -1,31 +1,30 @@
 // What changes a table: its making, an insert, the removal of its least key, and of all.
-ghost use Rattle.std.specs.Prelude.{◌≡◌, [], length, drop, is_ok, if◌then◌else◌};
+ghost use Rattle.std.specs.Prelude.{◌≡◌, [], length, drop, replicate, is_ok, if◌then◌else◌};
 ghost use Rattle.std.specs.List.{slice_get};
 ghost use Rattle.tables.specs.Entries.{put};
 ghost use Rattle.tables.specs.Faults.{reply};
-ghost use Rattle.tables.specs.Views.{contents, capacity, Shown, Same};
+ghost use Rattle.tables.specs.Views.{contents, capacity, Same};
 
 use crate::entry::Entry;
 use crate::fault::TableFault;
-use crate::slices::{clear, insert_among, remove_first_of};
 use crate::table::SortedTable;
+
+// Makes every entry key 0 with the value. Not by `fill`, which asks of V that its `clone` cannot fail.
+fn blank_all<V: Copy>(entries: &mut [Entry<V>], value: V)
+    ensures { entries.new ≡ replicate (length entries.old) (record { key = 0; value = value }) }
+{
+    entries.fill_with(|| Entry { key: 0, value });
+}
 
 impl<'a, V: Copy> SortedTable<'a, V> {
     // An empty table over the slice, each entry of which becomes key 0 with the value `blank`.
     pub fn new(entries: &'a mut [Entry<V>], blank: V) -> SortedTable<'a, V>
         ensures contents { contents result ≡ [] }
-        ensures shown { Shown result }
         ensures size { capacity result ≡ length entries.old }
         ensures blank { result.blank ≡ blank }
         ensures lender { result.entries.ghost_name ≡ entries.entry.ghost_name }
     {
-        clear(
-            entries,
-            Entry {
-                key: 0,
-                value: blank,
-            },
-        );
+        blank_all(entries, blank);
         SortedTable {
             entries,
             len: 0,
@@ -37,7 +36,6 @@ impl<'a, V: Copy> SortedTable<'a, V> {
     pub fn insert(&mut self, key: u64, value: V) -> Result<(), TableFault>
         ensures reply { result ≡ reply (capacity self.old) key (contents self.old) }
         ensures contents { contents self.new ≡ (if is_ok result then put (record { key = key; value = value }) (contents self.old) else contents self.old) }
-        ensures shown { Shown self.new }
         ensures same { Same self.old self.new }
     {
         let n = self.len;
@@ -48,10 +46,10 @@ impl<'a, V: Copy> SortedTable<'a, V> {
                 if n == self.entries.len() {
                     return Err(TableFault::Full);
                 }
-                // The slice leaves the table while entries move: in between its keys do not rise.
-                let entries = std::mem::take(&mut self.entries);
-                insert_among(entries, n, at, entry);
-                self.entries = entries;
+                // In between the keys do not rise, so the slice is written apart from the table.
+                let entries = &mut *self.entries;
+                entries[n] = entry;
+                entries[at..=n].rotate_right(1);
                 self.len = n + 1;
             }
         }
@@ -62,7 +60,6 @@ impl<'a, V: Copy> SortedTable<'a, V> {
     pub fn remove_least(&mut self) -> Option<Entry<V>>
         ensures reply { result ≡ slice_get (contents self.old) 0 }
         ensures contents { contents self.new ≡ drop 1 (contents self.old) }
-        ensures shown { Shown self.new }
         ensures same { Same self.old self.new }
     {
         let least = self.get(0)?;
@@ -71,9 +68,9 @@ impl<'a, V: Copy> SortedTable<'a, V> {
             key: 0,
             value: self.blank,
         };
-        let entries = std::mem::take(&mut self.entries);
-        remove_first_of(entries, n, blank);
-        self.entries = entries;
+        let entries = &mut *self.entries;
+        entries[..n].rotate_left(1);
+        entries[n - 1] = blank;
         self.len = n - 1;
         Some(least)
     }
@@ -81,16 +78,9 @@ impl<'a, V: Copy> SortedTable<'a, V> {
     // Takes every key out: each entry of the slice becomes blank.
     pub fn clear(&mut self)
         ensures contents { contents self.new ≡ [] }
-        ensures shown { Shown self.new }
         ensures same { Same self.old self.new }
     {
-        let blank = Entry {
-            key: 0,
-            value: self.blank,
-        };
-        let entries = std::mem::take(&mut self.entries);
-        clear(entries, blank);
-        self.entries = entries;
+        blank_all(self.entries, self.blank);
         self.len = 0;
     }
 }

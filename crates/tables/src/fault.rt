@@ -2,18 +2,16 @@
 ghost use Rattle.std.specs.Prelude.{◌≡◌};
 ghost use Rattle.tables.specs.Faults.{number};
 
-#[derive(Clone, Copy, Debug)]
+#[derive(Clone, Copy, PartialEq, Eq, Debug)]
 pub enum TableFault {
     // The key is new, and every entry of the slice is in use.
-    Full,
+    Full = 11,
 }
 
 impl TableFault {
     pub fn number(self) -> u8
         ensures { result ≡ number self }
     {
-        match self {
-            TableFault::Full => 11,
-        }
+        self as u8
     }
 }

@@ -5,9 +5,7 @@ mod edits;
 mod entry;
 mod fault;
 mod laws;
-mod places;
 mod reads;
-mod slices;
 mod table;
 #[cfg(test)]
 mod tests;

@@ -1,6 +1,7 @@
 // The table, and what holds of it between calls.
 ghost use Rattle.std.specs.Prelude.{◌≡◌, ◌≤◌, true, length, take};
-ghost use Rattle.tables.specs.Entries.{rising, laid};
+ghost use Rattle.std.specs.Coded.{Coded-set};
+ghost use Rattle.tables.specs.Entries.{rising, laid, entries_code};
 
 use crate::entry::Entry;
 
@@ -10,7 +11,7 @@ pub struct SortedTable<'a, V: Copy> {
     pub(crate) entries: &'a mut [Entry<V>],
     pub(crate) len: usize,
     pub(crate) blank: V,
-    ghost within: { len ≤ length entries.now },
-    ghost ordered: { rising (take len entries.now) ≡ true },
-    ghost clean: { ∥ entries.now ≡ laid (length entries.now) blank (take len entries.now) ∥₁ },
+    pub ghost within: { len ≤ length entries.now },
+    pub ghost ordered: { rising (take len entries.now) ≡ true },
+    pub ghost clean: { entries.now ≡ laid (length entries.now) blank (take len entries.now) } by { Coded-set (entries_code V.code) entries.now (laid (length entries.now) blank (take len entries.now)) },
 }

@@ -1,5 +1,6 @@
 // A table at its limits, over three types of values. Each test has one check and no `&&`: a proof pays for every way through.
 use crate::entry::Entry;
+use crate::fault::TableFault;
 use crate::table::SortedTable;
 
 // Where a file starts and how long it is.
@@ -18,10 +19,7 @@ fn full_table(rt: HostRuntime) {
     let _ = t.insert(7, 70);
     let _ = t.insert(3, 30);
     let replaced = t.insert(3, 31).is_ok();
-    let fault = match t.insert(5, 50) {
-        Ok(()) => 0,
-        Err(fault) => fault.number(),
-    };
+    let fault = t.insert(5, 50).err().map_or(0, TableFault::number);
     let found = t.find(5).is_some();
     let [a, b] = buf;
     assert!(rt;
@@ -37,10 +35,7 @@ fn freed_entry(rt: HostRuntime) {
     let none = t.remove_least().is_none();
     let _ = t.insert(8, Note(7, true));
     let _ = t.insert(5, Note(11, true));
-    let least = match t.remove_least() {
-        Some(least) => least.key,
-        None => 0,
-    };
+    let least = t.remove_least().map_or(0, |e| e.key);
     let found = t.find(5).is_some() | t.find(0).is_some();
     let [a, b] = buf;
     let kept = (a.key == 8) & (a.value.0 == 7) & a.value.1;
@@ -58,10 +53,9 @@ fn sixty_four_entries(rt: HostRuntime) {
     }
     let mut good = t.insert(64, Extent(64, 1)).is_err();
     for k in 0..64u64 {
-        good &= match t.remove_least() {
-            Some(least) => (least.key == k) & (least.value.1 == 1),
-            None => false,
-        };
+        good &= t
+            .remove_least()
+            .is_some_and(|e| (e.key == k) & (e.value.1 == 1));
         good &= t.find(k).is_none() & (t.find(63).is_some() == (k < 63));
     }
     assert!(rt; good & t.is_empty());

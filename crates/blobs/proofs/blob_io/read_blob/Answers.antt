@@ -6,9 +6,9 @@ pub returns-in_default : goal.returns-in_default
 unfolding note_of
 returns-in_default c = search rules
 
-pub returns-then-is_empty : goal.returns-then-is_empty
+pub returns-in_default-first : goal.returns-in_default-first
 unfolding note_of
-returns-then-is_empty c = search rules
+returns-in_default-first c = search rules
 
 pub returns : goal.returns
 unfolding note_of
