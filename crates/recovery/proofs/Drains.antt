@@ -1,60 +1,60 @@
 -- A walk to its end whose records are dropped. Assumes nothing.
-use Rattle.std.proofs.Common.{◌≡◌, ℕ, ◌<◌, List, [], ◌∷◌, length, Ok, Err, Option, sym, ap, ◌∙◌, subst, arith}
+use Rattle.std.proofs.Common.{◌≡◌, ℕ, ◌<◌, List, [], ◌∷◌, length, is_some, true, false, Some, None, Ok, Err, Option, Result, sym, ap, ◌∙◌, subst, arith}
 use Rattle.blobs.specs.declared.note.Note.{Note}
 use Rattle.messages.specs.declared.log_read.Record.{Record}
 use Rattle.refusals.specs.declared.refusal.Refusal.{Refusal}
-use Rattle.scan.specs.Order.{Segment, unless}
-use Rattle.tables.specs.Views.{contents}
+use Rattle.scan.specs.Order.{unless}
 use Rattle.walks.specs.Walk.{Walked, more}
-use Rattle.recovery.specs.State.{told_by, rest_of, Sane, Same, Next}
+use Rattle.recovery.specs.State.{told_by, segment_of, rest_of, Sane, Next, ended}
 use Rattle.recovery.specs.declared.iterator.LogIter.{LogIter}
-use Rattle.recovery.specs.declared.iterator.Step.{Step}
-use Rattle.recovery.specs.declared.iterator.Step.TheVariants.{Yield, End, Fail}
-use Rattle.recovery.proofs.States.{by_equals, same_same}
 
-module _ {R B : Type 0} where
-  -- what `next` ensures of an iterator v, said of what the iterator u before it refers to
-  pub next-same : (maps : B → ℕ → Option Note) (bytes : R → List ℕ) (body body2 : ℕ) (b : List ℕ) (u v w : LogIter R B) (r r2 : Step) → Same u v → body2 ≡ body → r2 ≡ r
-      → Next (maps v.source.now) (bytes v.view.now) (contents v.order.now) b body2 v w r2 → Next (maps u.source.now) (bytes u.view.now) (contents u.order.now) b body v w r
-  next-same maps bytes body body2 b u v w r r2 s k e t =
-      let notes = maps u.source.now in
-      let dev = bytes u.view.now in
-      let order = contents u.order.now in
-      let n = by_equals (λ ns ds os m. Next ns ds os b m v w r2) notes (maps v.source.now) dev (bytes v.view.now) order (contents v.order.now) body body2
-      (ap (λ x. maps x.now) s.source) (ap (λ x. bytes x.now) s.view) (ap (λ x. contents x.now) s.order) k t
-      in
-      subst (λ (x : Step). Next notes dev order b body v w x) e n
+module _ {D B : Type 0} (notes : B → ℕ → Option Note) (stored : D → List ℕ) where
+  -- the walk's end is where it was
+  pub record Draining (buffer : List ℕ) (body : ℕ) (v w : LogIter D B) : Type 0 where
+    pub fault : (rest_of notes stored v).fault ≡ (rest_of notes stored w).fault
+    pub current : (rest_of notes stored v).current ≡ (rest_of notes stored w).current
+    pub sane : Sane notes stored buffer body w
 
-  module _ (notes : ℕ → Option Note) (dev : List ℕ) (order : List Segment) where
-    pub yielded : (b : List ℕ) (body : ℕ) (v w : LogIter R B) (x : Record) → Next notes dev order b body v w (Yield x) → rest_of notes dev order v ≡ more (x ∷ []) (rest_of notes dev order w)
-    unfolding told_by
-    yielded b body v w x n = n.turn
+  module _ (a b : List ℕ) (n : ℕ) (u v w : LogIter D B) (d : Draining a n u v) where
+    -- one record more is dropped
+    module _ (o : Option Record) (r : Result (Option Record) Refusal) (t : Next notes stored b n v w (ended r)) (e : r ≡ Ok o) where
+      known : Next notes stored b n v w (ended (Ok o))
+      known = subst (λ q. Next notes stored b n v w (ended q)) e t
 
-    pub fewer : (b : List ℕ) (body : ℕ) (v w : LogIter R B) (x : Record) → Next notes dev order b body v w (Yield x) → length (rest_of notes dev order w).records < length (rest_of notes dev order v).records
-    unfolding more
-    fewer b body v w x n = let e = ap (λ (q : Walked). length q.records) (yielded b body v w x n) in omega arith
+      yielded : is_some o ≡ true → (x : Record) × (rest_of notes stored v ≡ more (x ∷ []) (rest_of notes stored w))
+      unfolding told_by
+      yielded i = go o i known.turn
+        where
+          go : (q : Option Record) → is_some q ≡ true → rest_of notes stored v ≡ told_by (ended (Ok q)) w.current (segment_of w.held) w.rest.now (rest_of notes stored w)
+              → (x : Record) × (rest_of notes stored v ≡ more (x ∷ []) (rest_of notes stored w))
+          go (Some x) j k = (x, k)
+          go None j k = absurd (cc)
 
-    pub record Draining (buffer : List ℕ) (body : ℕ) (v w : LogIter R B) : Type 0 where
-      pub fault : (rest_of notes dev order v).fault ≡ (rest_of notes dev order w).fault
-      pub current : (rest_of notes dev order v).current ≡ (rest_of notes dev order w).current
-      pub sane : Sane notes dev order buffer body w
-      pub same : Same v w
-
-    module _ (a b : List ℕ) (body : ℕ) (u v w : LogIter R B) (d : Draining a body u v) where
-      pub draining_more : (x : Record) → Next notes dev order b body v w (Yield x) → Draining b body u w
+      pub draining_more : (m : ℕ) → m ≡ n → is_some o ≡ true → Draining b m u w
       unfolding more
-      draining_more x n = record {
-        fault = d.fault ∙ ap (λ (q : Walked). q.fault) (yielded b body v w x n);
-        current = d.current ∙ ap (λ (q : Walked). q.current) (yielded b body v w x n);
-        sane = n.sane;
-        same = same_same u v w d.same n.same;
+      draining_more m l i = record {
+        fault = d.fault ∙ ap (λ (q : Walked). q.fault) (yielded i).1;
+        current = d.current ∙ ap (λ (q : Walked). q.current) (yielded i).1;
+        sane = subst (λ k. Sane notes stored b k w) (sym l) t.sane;
       }
 
-      pub drained : Next notes dev order b body v w End → (Ok (tt {0}) ≡ unless (rest_of notes dev order u).fault (tt {0})) × (w.current ≡ (rest_of notes dev order u).current)
-      unfolding told_by unless
-      drained n =
-          (sym (ap (λ (o : Option Refusal). unless o (tt {0})) (d.fault ∙ ap (λ (q : Walked). q.fault) n.turn)), sym (d.current ∙ ap (λ (q : Walked). q.current) n.turn))
+      pub fewer : is_some o ≡ true → length (rest_of notes stored w).records < length (rest_of notes stored v).records
+      unfolding more
+      fewer i = let k = ap (λ (q : Walked). length q.records) (yielded i).1 in omega arith
 
-      pub drained_fault : (e : Refusal) → Next notes dev order b body v w (Fail e) → Err e ≡ unless (rest_of notes dev order u).fault (tt {0})
+      pub drained : is_some o ≡ false → (Ok (tt {0}) ≡ unless (rest_of notes stored u).fault (tt {0})) × (w.current ≡ (rest_of notes stored u).current)
       unfolding told_by unless
-      drained_fault e n = sym (ap (λ (o : Option Refusal). unless o (tt {0})) (d.fault ∙ ap (λ (q : Walked). q.fault) n.turn))
+      drained i =
+          let k = go o i known.turn in
+          (sym (ap (λ (x : Option Refusal). unless x (tt {0})) (d.fault ∙ ap (λ (q : Walked). q.fault) k)), sym (d.current ∙ ap (λ (q : Walked). q.current) k))
+        where
+          go : (q : Option Record) → is_some q ≡ false → rest_of notes stored v ≡ told_by (ended (Ok q)) w.current (segment_of w.held) w.rest.now (rest_of notes stored w)
+              → rest_of notes stored v ≡ record { records = []; current = w.current; held = segment_of w.held; left = w.rest.now; fault = None }
+          go (Some x) j k = absurd (cc)
+          go None j k = k
+
+    pub drained_fault : (r : Result (Option Record) Refusal) (x : Refusal) → Next notes stored b n v w (ended r) → r ≡ Err x → Err x ≡ unless (rest_of notes stored u).fault (tt {0})
+    unfolding told_by unless
+    drained_fault r x t e =
+        let k = (subst (λ q. Next notes stored b n v w (ended q)) e t).turn in
+        sym (ap (λ (o : Option Refusal). unless o (tt {0})) (d.fault ∙ ap (λ (q : Walked). q.fault) k))

@@ -1,5 +1,5 @@
+pub mod Drains
 pub mod Loads
 pub mod Rests
 pub mod States
 pub mod Tails
-pub mod Drains

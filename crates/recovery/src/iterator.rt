@@ -1,166 +1,124 @@
 // The walk over the messages of a log, segment by segment.
-ghost use Rattle.std.specs.Prelude.{◌≡◌, ◌≤◌, length, take, Some, None};
-ghost use Rattle.tables.specs.Views.{contents};
-ghost use Rattle.walks.specs.Walk.{segment_bytes, read_in};
-ghost use Rattle.recovery.specs.State.{Sane, Turned, Next, step_of};
+ghost use Rattle.std.specs.Prelude.{◌≡◌, ◌+◌, ◌^◌, ◌<◌, length, Some, None, Ok};
+ghost use Rattle.recovery.specs.State.{Sane, Turned, Next, passed, ended};
 
+use crate::course::{Course, Held, Segment};
 use blobs::BlobSource;
 use codec::Lsn;
-use device::{BasedBuf, ReadAt};
-use messages::{LogOffset, LogRead, Record, is_entry, read_message};
+use device::Device;
+use messages::{Record, is_entry};
 use refusals::Refusal;
-use tables::{Entry, SortedTable};
+use std::ops::ControlFlow;
 use walks::{Turn, past, turn_of};
 
-// A used segment: its LSN and its place.
-pub(crate) type Segment = Entry<LogOffset>;
-
-// A walk: what it reads, and where it is. The bytes of the held segment stand in a buffer that the caller lends.
+// A walk, and where it is. Its buffers are lent to each call: in a field they could not be lent on, one to read and one to write.
 #[derive(Drop)]
-pub(crate) struct LogIter<'a, R, B> {
-    pub(crate) view: &'a R,
-    pub(crate) source: &'a B,
-    pub(crate) order: &'a SortedTable<'a, LogOffset>,
-    pub(crate) size: u64,
-    // LSNs from here on are not walked.
-    pub(crate) limit: Option<Lsn>,
-    pub(crate) last: bool,
-    // Which entries of the order are still to be taken.
-    pub(crate) at: usize,
-    pub(crate) until: usize,
-    pub(crate) held: Option<Segment>,
-    pub(crate) have: usize,
-    pub(crate) progress: u64,
+pub(crate) struct LogIter<'a, D, B> {
+    pub(crate) course: Course<'a, D, B>,
+    // The segments that are still to be taken.
+    pub(crate) rest: &'a [Segment],
+    pub(crate) held: Option<Held>,
     pub(crate) current: Option<Lsn>,
 }
 
-// What a turn of the walk led to.
-#[derive(Clone, Copy)]
-pub(crate) enum Step {
-    Yield(Record),
-    More,
-    End,
-    Fail(Refusal),
-}
-
-impl<'a, R: ReadAt, B: BlobSource> LogIter<'a, R, B> {
-    // The message at the current place of the held segment.
-    fn read(&self, segment: &[u8], body: &mut [u8], s: Segment) -> Result<LogRead, Refusal>
-        requires sane { Sane (B.BlobSource.notes self.now.source.now) (R.ReadAt.bytes self.now.view.now) (contents self.now.order.now) segment.now (length body.old) self.now }
-        requires held { self.now.held ≡ Some s }
-        ensures { result ≡ read_in (B.BlobSource.notes self.now.source.now) self.now.size (R.ReadAt.bytes self.now.view.now) s self.now.progress }
-    {
-        let n = self.have;
-        let lsn = s.key + self.progress;
-        let place = s.value + self.progress;
-        let view = BasedBuf {
-            buf: &segment[0..n],
-            offset: s.value,
-        };
-        read_message(&view, self.source, body, self.size, place, lsn)
-    }
-
-    // Copies a segment's bytes to the front of the buffer, as many as there are, and says how many.
-    fn load(&self, segment: &mut [u8], place: LogOffset) -> usize
-        requires base { R.ReadAt.first self.now.view.now ≡ 0 }
-        requires long { self.now.size ≤ length segment.old }
-        ensures bytes { take result segment.new ≡ segment_bytes self.now.size (R.ReadAt.bytes self.now.view.now) place }
-        ensures within { result ≤ length segment.new }
-    {
-        let size = self.size as usize;
-        match self.view.pread_exact_or_eof(&mut segment[0..size], place) {
-            Ok(n) => n,
-            Err(_) => 0,
-        }
-    }
-
+impl<D: Device, B: BlobSource> LogIter<'_, D, B> {
     // Takes the next segment, or ends.
-    fn enter(&mut self, segment: &mut [u8], room: usize) -> Step
-        requires base { R.ReadAt.first self.old.view.now ≡ 0 }
-        requires sane { Sane (B.BlobSource.notes self.old.source.now) (R.ReadAt.bytes self.old.view.now) (contents self.old.order.now) segment.old room self.old }
+    fn enter(&mut self, buffer: &mut [u8], body: usize) -> ControlFlow<Option<Record>, ()>
+        requires sane { Sane B.BlobSource.notes D.ReadAt.bytes buffer.old body self.old }
         requires none { self.old.held ≡ None }
-        ensures { Turned (B.BlobSource.notes self.old.source.now) (R.ReadAt.bytes self.old.view.now) (contents self.old.order.now) segment.new room self.old self.new result }
+        ensures { Turned B.BlobSource.notes D.ReadAt.bytes buffer.new body self.old self.new (Ok result) }
     {
-        if self.at >= self.until {
-            return Step::End;
-        }
-        let Some(s) = self.order.get(self.at) else {
-            return Step::End;
+        let Some((s, others)) = self.rest.split_first() else {
+            return ControlFlow::Break(None);
         };
-        if past(s.key, self.limit) {
-            return Step::End;
+        if past(s.key, self.course.limit) {
+            return ControlFlow::Break(None);
         }
-        self.have = self.load(segment, s.value);
-        self.at += 1;
-        self.held = Some(s);
-        self.progress = 20;
+        let have = self.course.load(buffer, s.value);
+        self.rest = others;
         self.current = Some(s.key + 20);
-        Step::More
+        self.held = Some(Held {
+            segment: *s,
+            have,
+            progress: 20,
+        });
+        ControlFlow::Continue(())
     }
 
     // One message of the held segment.
-    fn message(&mut self, segment: &[u8], body: &mut [u8], s: Segment) -> Step
-        requires sane { Sane (B.BlobSource.notes self.old.source.now) (R.ReadAt.bytes self.old.view.now) (contents self.old.order.now) segment.now (length body.old) self.old }
-        requires held { self.old.held ≡ Some s }
-        ensures { Turned (B.BlobSource.notes self.old.source.now) (R.ReadAt.bytes self.old.view.now) (contents self.old.order.now) segment.now (length body.old) self.old self.new result }
+    fn message(
+        &mut self,
+        held: Held,
+        buffer: &[u8],
+        body: &mut [u8],
+    ) -> Result<ControlFlow<Option<Record>, ()>, Refusal>
+        requires sane { Sane B.BlobSource.notes D.ReadAt.bytes buffer.now (length body.old) self.old }
+        requires held { self.old.held ≡ Some held }
+        ensures { Turned B.BlobSource.notes D.ReadAt.bytes buffer.now (length body.old) self.old self.new result }
     {
-        let p = self.progress;
-        if !is_entry(self.size, p) {
+        let s = held.segment;
+        if !is_entry(self.course.size.bytes(), held.progress) {
             self.held = None;
-            return Step::More;
+            return Ok(ControlFlow::Continue(()));
         }
-        let lsn = s.key + p;
-        if past(lsn, self.limit) {
-            return Step::End;
+        if past(s.key + held.progress, self.course.limit) {
+            return Ok(ControlFlow::Break(None));
         }
-        let read = self.read(segment, body, s);
-        match turn_of(self.limit, self.last, read) {
+        let read = self.course.read(held, buffer, body);
+        match turn_of(self.course.limit, self.course.last, read)? {
             Turn::Yield(record) => {
-                self.progress = p + record.len;
-                self.current = Some(lsn + record.len);
-                Step::Yield(record)
+                self.pass(held, record.len);
+                Ok(ControlFlow::Break(Some(record)))
             }
             Turn::Pass(len) => {
-                self.progress = p + len;
-                self.current = Some(lsn + len);
-                Step::More
+                self.pass(held, len);
+                Ok(ControlFlow::Continue(()))
             }
             Turn::Release => {
                 self.held = None;
-                Step::More
+                Ok(ControlFlow::Continue(()))
             }
-            Turn::Stop => Step::End,
-            Turn::Fail(e) => Step::Fail(e),
+            Turn::Stop => Ok(ControlFlow::Break(None)),
         }
     }
 
-    fn step(&mut self, segment: &mut [u8], body: &mut [u8]) -> Step
-        requires base { R.ReadAt.first self.old.view.now ≡ 0 }
-        requires sane { Sane (B.BlobSource.notes self.old.source.now) (R.ReadAt.bytes self.old.view.now) (contents self.old.order.now) segment.old (length body.old) self.old }
-        ensures { Turned (B.BlobSource.notes self.old.source.now) (R.ReadAt.bytes self.old.view.now) (contents self.old.order.now) segment.new (length body.old) self.old self.new result }
+    // Goes on behind a message of this length.
+    fn pass(&mut self, held: Held, len: u64)
+        requires progress { held.progress + len < 2 ^ 64 }
+        requires lsn { held.segment.key + (held.progress + len) < 2 ^ 64 }
+        ensures { self.new ≡ passed self.old held len }
+    {
+        let progress = held.progress + len;
+        self.held = Some(Held { progress, ..held });
+        self.current = Some(held.segment.key + progress);
+    }
+
+    fn step(
+        &mut self,
+        buffer: &mut [u8],
+        body: &mut [u8],
+    ) -> Result<ControlFlow<Option<Record>, ()>, Refusal>
+        requires { Sane B.BlobSource.notes D.ReadAt.bytes buffer.old (length body.old) self.old }
+        ensures { Turned B.BlobSource.notes D.ReadAt.bytes buffer.new (length body.old) self.old self.new result }
     {
         match self.held {
-            None => self.enter(segment, body.len()),
-            Some(s) => self.message(segment, body, s),
+            None => Ok(self.enter(buffer, body.len())),
+            Some(held) => self.message(held, buffer, body),
         }
     }
 
     // The next record, or the end.
     pub(crate) fn next(
         &mut self,
-        segment: &mut [u8],
+        buffer: &mut [u8],
         body: &mut [u8],
     ) -> Result<Option<Record>, Refusal>
-        requires base { R.ReadAt.first self.old.view.now ≡ 0 }
-        requires sane { Sane (B.BlobSource.notes self.old.source.now) (R.ReadAt.bytes self.old.view.now) (contents self.old.order.now) segment.old (length body.old) self.old }
-        ensures { Next (B.BlobSource.notes self.old.source.now) (R.ReadAt.bytes self.old.view.now) (contents self.old.order.now) segment.new (length body.old) self.old self.new (step_of result) }
+        requires { Sane B.BlobSource.notes D.ReadAt.bytes buffer.old (length body.old) self.old }
+        ensures { Next B.BlobSource.notes D.ReadAt.bytes buffer.new (length body.old) self.old self.new (ended result) }
     {
-        'walk: loop {
-            match self.step(segment, body) {
-                Step::More => continue 'walk,
-                Step::Yield(record) => break 'walk Ok(Some(record)),
-                Step::End => break 'walk Ok(None),
-                Step::Fail(e) => break 'walk Err(e),
+        loop {
+            if let ControlFlow::Break(record) = self.step(buffer, body)? {
+                return Ok(record);
             }
         }
     }

@@ -1,38 +1,22 @@
 -- `drain`: a record that is dropped leaves the walk's end where it was.
-use Rattle.std.proofs.Common.{length, Ok, ap, ◌∙◌}
-use Rattle.tables.specs.Views.{contents}
-use Rattle.recovery.specs.State.{step_of}
-use Rattle.recovery.specs.declared.iterator.Step.TheVariants.{Yield, End, Fail}
-use Rattle.recovery.proofs.Drains.{next-same, fewer, draining_more, drained, drained_fault}
+use Rattle.std.proofs.Common.{length, ◌∙◌}
+use Rattle.std.proofs.lemmas.Result.{err_from_is_err_and}
+use Rattle.recovery.proofs.Drains.{draining_more, fewer, drained, drained_fault}
 use Rattle.recovery.proofs.first_walk.drain.Goals as goal
 
-pub walk-preserved : goal.walk-preserved
-walk-preserved g c =
-    let t = next-same g.B.BlobSource.notes g.R.ReadAt.bytes (length c.args.body.now) (length c.walk.body) c.next.new.segment c.args.iter.now c.walk.iter c.next.new.self (Yield c.in-Ok-Some.field-0-0) _
-    c.walk.invariant.same c.walk.auto.body (ap step_of c.in-Ok-Some.is ∙ ap (λ q. step_of (Ok q)) c.in-Ok-Some.field-0-is) c.next.ensures
-    in
-    draining_more (g.B.BlobSource.notes c.args.iter.now.source.now) (g.R.ReadAt.bytes c.args.iter.now.view.now) (contents c.args.iter.now.order.now)
-    c.walk.segment c.next.new.segment (length c.args.body.now) c.args.iter.now c.walk.iter c.next.new.self c.walk.invariant c.in-Ok-Some.field-0-0 t
+pub loop-smaller : goal.loop-smaller
+loop-smaller g c = fewer g.B.BlobSource.notes g.D.ReadAt.bytes c.loop.buffer c.next.new.buffer (length c.loop.body) c.args.iter.now c.loop.iter c.next.new.self c.loop.invariant c.in_ok-next.field-0 c.next.result c.next.ensures c.in_ok-next.was (cc)
 
-pub walk-smaller : goal.walk-smaller
-walk-smaller g c =
-    let t = next-same g.B.BlobSource.notes g.R.ReadAt.bytes (length c.args.body.now) (length c.walk.body) c.next.new.segment c.args.iter.now c.walk.iter c.next.new.self (Yield c.in-Ok-Some.field-0-0) _
-    c.walk.invariant.same c.walk.auto.body (ap step_of c.in-Ok-Some.is ∙ ap (λ q. step_of (Ok q)) c.in-Ok-Some.field-0-is) c.next.ensures
-    in
-    fewer (g.B.BlobSource.notes c.args.iter.now.source.now) (g.R.ReadAt.bytes c.args.iter.now.view.now) (contents c.args.iter.now.order.now)
-    c.next.new.segment (length c.args.body.now) c.walk.iter c.next.new.self c.in-Ok-Some.field-0-0 t
+pub loop-preserved : goal.loop-preserved
+loop-preserved g c =
+    draining_more g.B.BlobSource.notes g.D.ReadAt.bytes c.loop.buffer c.next.new.buffer (length c.loop.body) c.args.iter.now c.loop.iter c.next.new.self c.loop.invariant c.in_ok-next.field-0 c.next.result c.next.ensures c.in_ok-next.was (length c.next.new.body) c.next.auto.body (cc)
 
-pub returns-in-Ok-None : goal.returns-in-Ok-None
-returns-in-Ok-None g c =
-    let t = next-same g.B.BlobSource.notes g.R.ReadAt.bytes (length c.args.body.now) (length c.walk.body) c.next.new.segment c.args.iter.now c.walk.iter c.next.new.self (End) _
-    c.walk.invariant.same c.walk.auto.body (ap step_of c.in-Ok-None.is ∙ ap (λ q. step_of (Ok q)) c.in-Ok-None.field-0-is) c.next.ensures
-    in
-    let e = drained (g.B.BlobSource.notes c.args.iter.now.source.now) (g.R.ReadAt.bytes c.args.iter.now.view.now) (contents c.args.iter.now.order.now) c.walk.segment c.next.new.segment (length c.args.body.now) c.args.iter.now c.walk.iter c.next.new.self c.walk.invariant t in
+pub returns : goal.returns
+returns g c =
+    let e = drained g.B.BlobSource.notes g.D.ReadAt.bytes c.loop.buffer c.next.new.buffer (length c.loop.body) c.args.iter.now c.loop.iter c.next.new.self c.loop.invariant c.in_ok-next.field-0 c.next.result c.next.ensures c.in_ok-next.was (cc) in
     record { reply = e.0; current = e.1 }
 
-pub returns-in-Err-clause-reply : goal.returns-in-Err-clause-reply
-returns-in-Err-clause-reply g c =
-    let t = next-same g.B.BlobSource.notes g.R.ReadAt.bytes (length c.args.body.now) (length c.walk.body) c.next.new.segment c.args.iter.now c.walk.iter c.next.new.self (Fail c.in-Err.e) _
-    c.walk.invariant.same c.walk.auto.body (ap step_of c.in-Err.is) c.next.ensures
-    in
-    drained_fault (g.B.BlobSource.notes c.args.iter.now.source.now) (g.R.ReadAt.bytes c.args.iter.now.view.now) (contents c.args.iter.now.order.now) c.walk.segment c.next.new.segment (length c.args.body.now) c.args.iter.now c.walk.iter c.next.new.self c.walk.invariant c.in-Err.e t
+pub returns-in_err-next-clause-reply : goal.returns-in_err-next-clause-reply
+returns-in_err-next-clause-reply g c =
+    let r = err_from_is_err_and c.from_residual.result c.from_residual.ensures.1 in
+    r.1 ∙ drained_fault g.B.BlobSource.notes g.D.ReadAt.bytes c.loop.buffer c.next.new.buffer (length c.loop.body) c.args.iter.now c.loop.iter c.next.new.self c.loop.invariant c.next.result r.0 c.next.ensures (cc (c.in_err-next.was, r.2))

@@ -1,15 +1,18 @@
-use Rattle.std.proofs.Common.{ℕ, ltb, length, take, drop, sym, ap, ◌∙◌}
-use Rattle.tables.specs.Views.{contents}
-use Rattle.walks.specs.Walks.{tail_from, tail}
+use Rattle.std.proofs.Common.{◌≡◌, true, ltb, sym, ap, ◌∙◌, rules}
+use Rattle.std.proofs.lemmas.List.{take_rest}
+use Rattle.std.proofs.lemmas.List.Sorted.{IsPartitionPoint-from_clause}
+use Rattle.tables.specs.Entries.{rising}
+use Rattle.walks.specs.Walks.{since, tail_from, tail}
+use Rattle.recovery.proofs.Tails.{below_parts, since-drop}
 use Rattle.recovery.proofs.tail.find_tail.Goals as goal
 
 pub returns : goal.returns
 unfolding tail
 returns c =
-    let os = contents c.args.order.now in
-    let t = c.follow.result in
-    record {
-      tail = ap (tail_from c.args.size c.args.start) c.first_from-from.ensures.since ∙ c.follow.ensures.tail
-          ∙ ap (λ (n : ℕ). record { segments = drop n (take t.until os); absent = t.absent; gap = ltb t.until (length os) }) (sym c.follow.ensures.from);
-      until = c.follow.ensures.until;
-    }
+    let ss = c.entries-order.result.now in
+    let start = c.args.start in
+    let from = c.partition_point-from.result in
+    let r : rising ss ≡ true = rw c.entries-order.ensures c.args.order.now.ordered in
+    let p = IsPartitionPoint-from_clause (λ s. ltb s.key start) ss from c.partition_point-from.ensures.partitioned (below_parts start ss r) (λ a r f' k. search rules) in
+    c.follow.ensures ∙ ap (tail_from c.args.size start) (take_rest ss from ∙ sym (since-drop start from ss c.partition_point-from.ensures.bound p))
+    ∙ ap (λ l. tail_from c.args.size start (since start l)) c.entries-order.ensures

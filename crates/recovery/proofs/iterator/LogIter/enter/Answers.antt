@@ -1,27 +1,15 @@
-use Rattle.std.proofs.Common.{sym, arith}
-use Rattle.layout.proofs.Powers.{sized}
-use Rattle.tables.specs.Views.{contents}
-use Rattle.recovery.proofs.States.{e-none, e-there, s-small, e-past, e-take}
+use Rattle.std.proofs.Common.{sym}
+use Rattle.recovery.proofs.States.{e-none, e-past, e-take}
 use Rattle.recovery.proofs.iterator.LogIter.enter.Goals as goal
 
-pub returns-then-self : goal.returns-then-self
-returns-then-self g c =
-    e-none (g.B.BlobSource.notes c.args.self.now.source.now) (g.R.ReadAt.bytes c.args.self.now.view.now) (contents c.args.self.now.order.now) c.args.segment.now c.args.room c.args.self.now c.requires.sane c.requires.none c.if-self.true
-
 pub returns-in_default : goal.returns-in_default
-returns-in_default g c =
-    absurd (e-there (g.B.BlobSource.notes c.args.self.now.source.now) (g.R.ReadAt.bytes c.args.self.now.view.now) (contents c.args.self.now.order.now) c.args.segment.now c.args.room c.args.self.now c.requires.sane c.requires.none c.if-self.false (sym c.in_default.ensures))
+returns-in_default g c = e-none g.B.BlobSource.notes g.D.ReadAt.bytes c.args.buffer.now c.args.body c.args.self.now c.requires.sane c.requires.none c.in_default.ensures.cases
 
 pub returns-then-past : goal.returns-then-past
 returns-then-past g c =
-    e-past (g.B.BlobSource.notes c.args.self.now.source.now) (g.R.ReadAt.bytes c.args.self.now.view.now) (contents c.args.self.now.order.now) c.args.segment.now c.args.room c.args.self.now c.requires.sane c.requires.none c.if-self.false c.in-Some.s (sym c.in-Some.ensures) (sym c.if-past.ensures)
-
-pub overflow_add-self-2 : goal.overflow_add-self-2
-overflow_add-self-2 g c =
-    let s = s-small (g.B.BlobSource.notes c.args.self.now.source.now) (g.R.ReadAt.bytes c.args.self.now.view.now) (contents c.args.self.now.order.now) c.args.segment.now c.args.room c.args.self.now c.requires.sane c.requires.none c.if-self.false c.in-Some.s (sym c.in-Some.ensures) in
-    record { fits = omega (arith, s.lsn, (sized c.args.self.now.size c.requires.sane.sized).low) }
+    e-past g.B.BlobSource.notes g.D.ReadAt.bytes c.args.buffer.now c.args.body c.args.self.now c.requires.sane c.requires.none c.in-Some.s.now c.in-Some.others.now c.in-Some.ensures.cases.0 (sym c.if-past.ensures)
 
 pub returns : goal.returns
 returns g c =
-    e-take (g.B.BlobSource.notes c.args.self.now.source.now) (g.R.ReadAt.bytes c.args.self.now.view.now) (contents c.args.self.now.order.now) c.args.segment.now c.load-self.new.segment c.args.room c.args.self.now c.in-Some.s c.load-self.result c.requires.sane c.requires.none c.if-self.false (sym c.in-Some.ensures) (sym c.if-past.ensures)
-    c.load-self.auto.segment c.load-self.ensures.within c.load-self.ensures.bytes
+    e-take g.B.BlobSource.notes g.D.ReadAt.bytes c.args.buffer.now c.args.body c.args.self.now c.requires.sane c.requires.none c.in-Some.s.now c.in-Some.others c.in-Some.ensures.cases.0
+    c.load-have.new.buffer c.load-have.result (sym c.if-past.ensures) c.load-have.auto.buffer c.load-have.ensures.within c.load-have.ensures.bytes

@@ -1,11 +1,8 @@
-use Rattle.std.proofs.Common.{length, ap}
-use Rattle.tables.specs.Views.{contents}
-use Rattle.recovery.proofs.States.{again}
+use Rattle.std.proofs.Common.{length, Ok, ap, ◌∙◌}
+use Rattle.recovery.proofs.States.{to_more}
 use Rattle.recovery.proofs.iterator.LogIter.next.Goals as goal
 
-pub walk-preserved : goal.walk-preserved
-walk-preserved g c =
-    let s = c.walk.invariant.same in
-    again (g.B.BlobSource.notes c.args.self.now.source.now) (g.B.BlobSource.notes c.walk.self.source.now) (g.R.ReadAt.bytes c.args.self.now.view.now) (g.R.ReadAt.bytes c.walk.self.view.now)
-    (contents c.args.self.now.order.now) (contents c.walk.self.order.now) (length c.args.body.now) (length c.walk.body) c.walk.segment c.step.new.segment c.args.self.now c.walk.self c.step.new.self
-    (ap (λ r. g.B.BlobSource.notes r.now) s.source) (ap (λ r. g.R.ReadAt.bytes r.now) s.view) (ap (λ r. contents r.now) s.order) c.walk.auto.body c.walk.invariant c.in-More.ensures
+pub loop-record-preserved : goal.loop-record-preserved
+loop-record-preserved g c =
+    to_more g.B.BlobSource.notes g.D.ReadAt.bytes c.loop-record.buffer c.step.new.buffer (length c.loop-record.body) (length c.step.new.body) c.args.self.now c.loop-record.self c.step.new.self c.step.result
+    c.loop-record.invariant c.step.ensures (c.in_ok-record.was ∙ ap Ok c.in_default.is) c.step.auto.body

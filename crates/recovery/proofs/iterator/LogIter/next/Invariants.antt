@@ -1,11 +1,9 @@
 use Rattle.std.proofs.Common.{length}
-use Rattle.tables.specs.Views.{contents}
 use Rattle.recovery.specs.State.{Going, weight}
 use Rattle.recovery.proofs.iterator.LogIter.next.Given as goal
 
-abbrev pub invariant-walk : goal.invariant-walk
-invariant-walk g l =
-    Going (g.B.BlobSource.notes l.initial.self.source.now) (g.R.ReadAt.bytes l.initial.self.view.now) (contents l.initial.self.order.now) l.segment (length l.initial.body) l.initial.self l.self
+abbrev pub invariant-loop-record : goal.invariant-loop-record
+invariant-loop-record g l = Going g.B.BlobSource.notes g.D.ReadAt.bytes l.buffer (length l.body) l.initial.self l.self
 
-abbrev pub decreases-walk : goal.decreases-walk
-decreases-walk g l = weight l.self
+abbrev pub decreases-loop-record : goal.decreases-loop-record
+decreases-loop-record g l = weight l.self
