@@ -1,10 +1,10 @@
 -- Which entry is found in a block table, and what a mark changes.
-use Rattle.std.proofs.Common.{◌≡◌, ℕ, ◌+◌, ◌<◌, ◌≤◌, Bool, true, false, ◌||◌, ◌≢◌, cond, List, length, get_or, set, not, is_some, Some, None, Option, sym, refl, inl, inr, ap, ◌∙◌, nat_eq, arith}
+use Rattle.std.proofs.Common.{◌≡◌, ℕ, ◌+◌, ◌<◌, ◌≤◌, Bool, true, false, ◌||◌, ◌≢◌, cond, List, length, get_or, set, replicate, not, is_some, Some, None, Option, sym, refl, inl, inr, ap, ◌∙◌, nat_eq, arith}
 use Rattle.std.proofs.lemmas.Bool.{both_ways, cases_eq, eqb-true, eq-eqb, ne_eqb}
 use Rattle.std.proofs.lemmas.Bool.Decides.{nat_tests}
 use Rattle.std.proofs.lemmas.Grind.{common_steps}
 use Rattle.std.proofs.lemmas.List.{length-set, places}
-use Rattle.std.proofs.lemmas.List.Folds.{position_or_len-set}
+use Rattle.std.proofs.lemmas.List.Folds.{position_or_len-set, prefix_len-replicate}
 use Rattle.std.proofs.lemmas.List.Quantifiers.{position-Some}
 use Rattle.std.proofs.lemmas.List.Sums.{sum_by-set, sum_by-le, position_or_len_is, fails_before_first}
 use Rattle.std.specs.List.{count_by, position_or_len}
@@ -16,6 +16,11 @@ same_option None None e = refl
 same_option None (Some b) e = absurd (both_ways false refl e)
 same_option (Some a) None e = absurd (both_ways false refl e)
 same_option (Some a) (Some b) e = ap Some (eqb-true a b e)
+
+pub entry_none : (n b : ℕ) → entry_of (replicate n None) (Some b) ≡ None
+entry_none n b =
+    let f = prefix_len-replicate (λ e. not (option_eq nat_eq e (Some b))) n None refl in
+    grind (arith, common_steps, nat_tests)
 
 -- an entry that is found holds what was wanted
 pub entry_holds : (xs : List (Option ℕ)) (w : Option ℕ) (i : ℕ) → entry_of xs w ≡ Some i → (i < length xs) × (get_or xs i None ≡ w)

@@ -1,5 +1,5 @@
 -- What a cover shows, and what a mark and a write change of it.
-use Rattle.std.proofs.Common.{◌≡◌, ℕ, ◌+◌, ◌-◌, ◌*◌, ◌/◌, ◌%◌, ◌<◌, ◌≤◌, max, cond, ◌&&◌, ◌≢◌, ◌⊎◌, nat_le, nat_lt, List, length, get_or, take, drop, set, Some, None, Option, sym, refl, ap, ◌∙◌, inl, inr, mul-le-mul_right, add-mul, one-mul, arith}
+use Rattle.std.proofs.Common.{◌≡◌, ℕ, ◌+◌, ◌-◌, ◌*◌, ◌/◌, ◌%◌, ◌<◌, ◌≤◌, max, cond, ◌&&◌, ◌≢◌, ◌⊎◌, nat_le, nat_lt, List, length, get_or, take, drop, set, replicate, Some, None, Option, sym, refl, ap, ◌∙◌, inl, inr, mul-le-mul_right, add-mul, one-mul, arith}
 use Rattle.std.proofs.lemmas.List.FromFn.{length-map-range_with_len, get_or-map-range_with_len}
 use Rattle.std.proofs.lemmas.List.{ext_get_or, get_or_past, places}
 use Rattle.std.proofs.lemmas.Bool.{cases_eq, cases_lt}
@@ -7,7 +7,7 @@ use Rattle.std.proofs.lemmas.Bool.Decides.{nat_tests}
 use Rattle.device.proofs.Blocks.{in_block, block_of}
 use Rattle.device.proofs.Written.{lays, length-laid}
 use Rattle.device.specs.Writes.{laid}
-use Rattle.cover.proofs.Entries.{entry_holds, mark_named, mark_other}
+use Rattle.cover.proofs.Entries.{entry_none, entry_holds, mark_named, mark_other}
 use Rattle.cover.specs.Entries.{entry_of}
 use Rattle.cover.specs.Shown.{block_bytes, seen, shown}
 
@@ -60,6 +60,19 @@ module _ (size : ℕ) (p : 0 < size) where
       let t : block_bytes size entries cover medium (k / size) ≡ take size (drop (k / size * size) medium) = ap (λ o. elim o [ Some i ↦ take size (drop (i * size) cover) | None ↦ take size (drop (k / size * size) medium) ]) e in
       ap (λ l. get_or l (k % size) 0) t ∙ grind (arith, places)
 
+  -- with no entry marked, the bytes are those of the medium
+  module _ (n : ℕ) (cover medium : List ℕ) where
+    seen_unmarked : (k : ℕ) → seen size (replicate n None) cover medium k ≡ get_or medium k 0
+    seen_unmarked k = seen_medium (replicate n None) cover medium k (entry_none n (k / size))
+
+    pub zeros_unmarked : (k : ℕ) → length medium ≤ k → seen size (replicate n None) cover medium k ≡ 0
+    zeros_unmarked k h = seen_unmarked k ∙ get_or_past medium k 0 h
+
+    pub shown_unmarked : shown (length medium) size (replicate n None) cover medium ≡ medium
+    shown_unmarked =
+        let l = length-shown (length medium) size (replicate n None) cover medium in
+        ext_get_or 0 _ _ l (λ k h. get_or-shown (length medium) size (replicate n None) cover medium k (omega arith) ∙ seen_unmarked k)
+
   -- the buffer changes in its block i alone
   module _ (entries entries' : List (Option ℕ)) (cover cover' medium : List ℕ) (i : ℕ)
       (kept : (x : ℕ) → (x < i * size) ⊎ (i * size + size ≤ x) → get_or cover' x 0 ≡ get_or cover x 0) where
@@ -107,14 +120,16 @@ module _ (size : ℕ) (p : 0 < size) where
     pub zeros_marked : ((k : ℕ) → len ≤ k → seen size entries cover medium k ≡ 0) → (k : ℕ) → len ≤ k → seen size entries' cover' medium k ≡ 0
     zeros_marked zeros k h = seen_marked k ∙ zeros k h
 
-  -- `src` is put at `at`, whose block has the entry i
-  module _ (len : ℕ) (entries : List (Option ℕ)) (cover medium src : List ℕ) (at i : ℕ)
-      (zeros : (k : ℕ) → len ≤ k → seen size entries cover medium k ≡ 0)
-      (short : at % size + length src ≤ size) (to : entry_of entries (Some (at / size)) ≡ Some i) where
-    abbrev new : List ℕ
-    new = laid cover (i * size + at % size) src
+  -- the block of a live entry lies in the buffer
+  pub room : (live i n : ℕ) → i < live → live * size ≤ n → i * size + size ≤ n
+  room live i n low fits = let m = mul-le-mul_right {m = i + 1} {n = live} size (omega arith) in let a = add-mul i 1 size in let o = one-mul size in omega arith
 
-    seen_new : (k : ℕ) → seen size entries new medium k ≡ cond (nat_le at k && nat_lt k (at + length src)) (get_or src (k - at) 0) (seen size entries cover medium k)
+  -- `src` is put at `at`, whose block has the entry i
+  module _ (len len' start : ℕ) (entries : List (Option ℕ)) (cover cover' medium src : List ℕ) (at i : ℕ) (grown : len' ≡ max len (at + length src))
+      (zeros : (k : ℕ) → len ≤ k → seen size entries cover medium k ≡ 0)
+      (short : at % size + length src ≤ size) (to : entry_of entries (Some (at / size)) ≡ Some i) (begin : start ≡ i * size + at % size)
+      (wrote : (x : ℕ) → get_or cover' x 0 ≡ cond (nat_le start x && nat_lt x (start + length src)) (get_or src (x - start) 0) (get_or cover x 0)) where
+    seen_new : (k : ℕ) → seen size entries cover' medium k ≡ cond (nat_le at k && nat_lt k (at + length src)) (get_or src (k - at) 0) (seen size entries cover medium k)
     seen_new k =
         let here = in_block size k p in
         let there = in_block size at p in
@@ -122,12 +137,13 @@ module _ (size : ℕ) (p : 0 < size) where
           | inl e ↦
               let f : k / size * size ≡ at / size * size = ap (λ x. x * size) e in
               let t : entry_of entries (Some (k / size)) ≡ Some i = ap (λ x. entry_of entries (Some x)) e ∙ to in
-              let n = seen_cover entries new medium k i t in
+              let n = seen_cover entries cover' medium k i t in
               let o = seen_cover entries cover medium k i t in
-              grind (arith, nat_tests, lays)
+              let w = wrote (i * size + k % size) in
+              grind (arith, nat_tests)
           | inr ne ↦
               let out : at ≤ k → k < at + length src → ⊥ = λ l h. ne (block_of size (at / size) k (omega arith) (omega arith)) in
-              let o = seen_there entries entries cover new medium i (λ x h. elim h [ inl l ↦ grind (arith, lays) | inr l ↦ grind (arith, lays) ]) k refl
+              let o = seen_there entries entries cover cover' medium i (λ x h. let w = wrote x in elim h [ inl l ↦ grind (arith, nat_tests) | inr l ↦ grind (arith, nat_tests) ]) k refl
               (λ j e q. let a = (entry_holds entries (Some (k / size)) j e).1 in
               let b = (entry_holds entries (Some (at / size)) i to).1 in
               let s : ◌≡◌ {A = Option ℕ} (Some (k / size)) (Some (at / size)) = sym a ∙ (ap (λ x. get_or entries x None) q ∙ b) in
@@ -144,18 +160,18 @@ module _ (size : ℕ) (p : 0 < size) where
       | inr h ↦ let l = length-shown len size entries cover medium in get_or_past (shown len size entries cover medium) k 0 (omega arith) ∙ sym (zeros k h)
     ]
 
-    pub shown_write : shown (max len (at + length src)) size entries new medium ≡ laid (shown len size entries cover medium) at src
+    pub shown_write : shown len' size entries cover' medium ≡ laid (shown len size entries cover medium) at src
     shown_write =
         let l = length-shown len size entries cover medium in
-        let l' = length-shown (max len (at + length src)) size entries new medium in
+        let l' = length-shown len' size entries cover' medium in
         let n = length-laid (shown len size entries cover medium) at src in
         ext_get_or 0 _ _ (omega arith) (λ k h.
-        let o = get_or-shown (max len (at + length src)) size entries new medium k (omega arith) in
+        let o = get_or-shown len' size entries cover' medium k (omega arith) in
         let s = seen_new k in
         let w = get_or-shown_all k in
         grind (arith, nat_tests, lays))
 
-    pub zeros_write : (k : ℕ) → max len (at + length src) ≤ k → seen size entries new medium k ≡ 0
+    pub zeros_write : (k : ℕ) → len' ≤ k → seen size entries cover' medium k ≡ 0
     zeros_write k h =
         let s = seen_new k in
         let z = zeros k (omega arith) in

@@ -12,8 +12,7 @@ pub(crate) fn span(bytes: &[u8], from: usize, n: usize) -> &[u8]
 
 // Fills `dst` from the place `from` of `src`, with zeros past its end.
 pub(crate) fn copy_padded(dst: &mut [u8], src: &[u8], from: usize)
-    ensures len { length dst.new ≡ length dst.old }
-    ensures bytes { (k : ℕ) → k < length dst.old → slice_index dst.new k ≡ slice_index src.now (from + k) }
+    ensures { (k : ℕ) → k < length dst.old → slice_index dst.new k ≡ slice_index src.now (from + k) }
 {
     let part = span(src, from, dst.len());
     let (front, rest) = dst.split_at_mut(part.len());

@@ -26,7 +26,6 @@ impl<'a> Cover<'a> {
     fn copy_piece(&self, dst: &mut [u8], at: u64) -> usize
         requires some { 0 < length dst.old }
         ensures count { (0 < result) × (result ≤ length dst.old) }
-        ensures len { length dst.new ≡ length dst.old }
         ensures front { (k : ℕ) → k < result → slice_index dst.new k ≡ byte_at self.now (at + k) }
     {
         let size = self.geometry.block_size().bytes();
@@ -37,11 +36,11 @@ impl<'a> Cover<'a> {
     }
 
     fn copy_out(&self, dst: &mut [u8], at: u64)
-        requires inside { at + length dst.old ≤ self.now.len }
-        requires places { self.now.len < 2 ^ 64 }
+        requires inside { at + length dst.old ≤ length (contents self.now) }
+        requires places { at + length dst.old < 2 ^ 64 }
         ensures { dst.new ≡ part 0 (contents self.now) at (length dst.old) }
     {
-        // No iterator gives pieces whose lengths vary.
+        // The first piece ends with its block, so these are no `chunks_mut`.
         let mut done = 0;
         let end = dst.len();
         while done < end {
@@ -51,7 +50,9 @@ impl<'a> Cover<'a> {
 
     // How many bytes there are from `at` on. Refused above the end.
     fn len_from(&self, at: u64) -> Result<u64, DeviceError>
-        ensures { MatchResult result (λ n. (at ≤ self.now.len) × (n ≡ self.now.len - at)) (λ e. (self.now.len < at) × (e ≡ Outside)) }
+        ensures { MatchResult result
+            (λ n. (at + n ≡ length (contents self.now)) × (at + n < 2 ^ 64))
+            (λ e. (length (contents self.now) < at) × (e ≡ Outside)) }
     {
         self.len.checked_sub(at).ok_or(DeviceError::Outside)
     }

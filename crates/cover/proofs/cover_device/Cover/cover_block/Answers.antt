@@ -28,7 +28,7 @@ invariant_of-self c =
       sized = (s.sized.0, rw l s.sized.1);
       zeros = zeros_marked size p c.bytes-size.result s.len same s.table _ (vec_items s.buf) _ s.medium.now c.args.block i free none c.mark.ensures
         (λ x h. elim h [ inl l ↦ grind (arith, places, with_items_is) | inr l ↦ grind (arith, places, with_items_is) ])
-        (λ r h. let e = c.copy_padded.ensures.bytes r (grind (arith, places)) in grind (arith, places, with_items_is)) s.zeros;
+        (λ r h. let e = c.copy_padded.ensures r (grind (arith, places)) in grind (arith, places, with_items_is)) s.zeros;
     }
 
 pub returns-clause-variant : goal.returns-clause-variant
@@ -68,4 +68,4 @@ returns-clause-bytes c =
     let none : entry_of s.table (Some c.args.block) ≡ None = search rules in
     shown_marked size p c.bytes-size.result s.len same s.table _ (vec_items s.buf) _ s.medium.now c.args.block i free none c.mark.ensures
     (λ x h. elim h [ inl l ↦ grind (arith, places, with_items_is) | inr l ↦ grind (arith, places, with_items_is) ])
-    (λ r h. let e = c.copy_padded.ensures.bytes r (grind (arith, places)) in grind (arith, places, with_items_is))
+    (λ r h. let e = c.copy_padded.ensures r (grind (arith, places)) in grind (arith, places, with_items_is))
