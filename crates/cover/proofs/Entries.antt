@@ -1,5 +1,5 @@
 -- Which entry is found in a block table, and what a mark changes.
-use Rattle.std.proofs.Common.{◌≡◌, ℕ, ◌+◌, ◌<◌, ◌≤◌, Bool, true, false, ◌||◌, ◌≢◌, cond, List, length, get_or, set, replicate, not, is_some, Some, None, Option, sym, refl, inl, inr, ap, ◌∙◌, nat_eq, arith}
+use Rattle.std.proofs.Common.{◌≡◌, ℕ, ◌+◌, ◌<◌, ◌≤◌, true, false, ◌||◌, ◌≢◌, cond, List, length, get_or, set, replicate, not, is_some, Some, None, Option, sym, refl, inl, inr, ap, ◌∙◌, nat_eq, arith}
 use Rattle.std.proofs.lemmas.Bool.{both_ways, cases_eq, eqb-true, eq-eqb, ne_eqb}
 use Rattle.std.proofs.lemmas.Bool.Decides.{nat_tests}
 use Rattle.std.proofs.lemmas.Grind.{common_steps}
@@ -7,7 +7,6 @@ use Rattle.std.proofs.lemmas.List.{length-set, places}
 use Rattle.std.proofs.lemmas.List.Folds.{position_or_len-set, prefix_len-replicate}
 use Rattle.std.proofs.lemmas.List.Quantifiers.{position-Some}
 use Rattle.std.proofs.lemmas.List.Sums.{sum_by-set, sum_by-le, position_or_len_is, fails_before_first}
-use Rattle.std.specs.List.{count_by, position_or_len}
 use Rattle.std.specs.Option.{option_eq}
 use Rattle.cover.specs.Entries.{entry_of, unmarked}
 

@@ -1,4 +1,4 @@
-use Rattle.std.proofs.Common.{◌≡◌, ◌+◌, ◌<◌, ◌≤◌, length, vec_items, sym, ◌∙◌, arith}
+use Rattle.std.proofs.Common.{◌+◌, length, vec_items, sym, ◌∙◌, arith}
 use Rattle.device.proofs.Written.{part_by}
 use Rattle.cover.proofs.Shown.{length-shown, get_or-shown}
 use Rattle.cover.specs.Meaning.{contents}

@@ -1,4 +1,4 @@
-use Rattle.std.proofs.Common.{◌≡◌, ◌+◌, ◌/◌, ◌%◌, ◌<◌, length, get_or, take, vec_items, sym, ap, ◌∙◌, mod-lt, arith, rules}
+use Rattle.std.proofs.Common.{◌≡◌, ◌+◌, ◌/◌, ◌%◌, ◌<◌, length, get_or, vec_items, sym, ap, ◌∙◌, mod-lt, arith, rules}
 use Rattle.std.proofs.lemmas.List.{places, get_or_append_left}
 use Rattle.cover.proofs.Shown.{seen_piece}
 use Rattle.cover.specs.Shown.{block_bytes}

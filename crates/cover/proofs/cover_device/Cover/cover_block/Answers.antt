@@ -1,4 +1,4 @@
-use Rattle.std.proofs.Common.{rules, ◌≡◌, ◌≤◌, ◌<◌, ◌*◌, ◌+◌, ℕ, ◌⊎◌, length, get_or, set, is_some, Some, None, vec_items, vec_len, sym, inl, inr, ap, ◌∙◌, arith}
+use Rattle.std.proofs.Common.{rules, ◌≡◌, ◌<◌, length, is_some, Some, None, vec_items, inl, inr, ap, ◌∙◌, arith}
 use Rattle.std.proofs.lemmas.Bool.Decides.{nat_tests}
 use Rattle.std.proofs.lemmas.List.{places, with_items_is, length-set}
 use Rattle.cover.proofs.Shown.{zeros_marked, shown_marked}
@@ -27,8 +27,8 @@ invariant_of-self c =
     record {
       sized = (s.sized.0, rw l s.sized.1);
       zeros = zeros_marked size p c.bytes-size.result s.len same s.table _ (vec_items s.buf) _ s.medium.now c.args.block i free none c.mark.ensures
-        (λ x h. elim h [ inl l ↦ grind (arith, places, with_items_is) | inr l ↦ grind (arith, places, with_items_is) ])
-        (λ r h. let e = c.copy_padded.ensures r (grind (arith, places)) in grind (arith, places, with_items_is)) s.zeros;
+          (λ x h. elim h [ inl l ↦ grind (arith, places, with_items_is) | inr l ↦ grind (arith, places, with_items_is) ])
+          (λ r h. let e = c.copy_padded.ensures r (grind (arith, places)) in grind (arith, places, with_items_is)) s.zeros;
     }
 
 pub returns-clause-variant : goal.returns-clause-variant

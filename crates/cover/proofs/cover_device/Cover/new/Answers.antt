@@ -1,8 +1,7 @@
-use Rattle.std.proofs.Common.{◌≡◌, ◌*◌, ◌/◌, ◌<◌, ◌≤◌, min, length, replicate, None, vec_items, vec_len, sym, ap, ◌∙◌, mul-le-mul_right, arith, rules}
+use Rattle.std.proofs.Common.{◌≡◌, ◌/◌, ◌<◌, min, length, None, vec_items, ap, ◌∙◌, mul-le-mul_right, arith, rules}
 use Rattle.std.proofs.lemmas.Nat.{div-add-mod'}
 use Rattle.std.proofs.lemmas.List.{length-replicate}
 use Rattle.cover.proofs.Shown.{zeros_unmarked, shown_unmarked}
-use Rattle.cover.specs.Shown.{seen, shown}
 use Rattle.cover.proofs.cover_device.Cover.new.Goals as goal
 
 pub invariant_of-result : goal.invariant_of-result

@@ -1,4 +1,4 @@
-use Rattle.std.proofs.Common.{◌≡◌, ℕ, ◌+◌, ◌*◌, ◌/◌, ◌%◌, ◌<◌, ◌≤◌, true, length, Some, Err, vec_items, vec_len, refl, sym, ap, ◌∙◌, arith, rules}
+use Rattle.std.proofs.Common.{◌≡◌, ◌+◌, ◌*◌, ◌/◌, ◌%◌, ◌<◌, true, length, Some, vec_items, vec_len, sym, ap, ◌∙◌, arith, rules}
 use Rattle.std.proofs.lemmas.Bool.Decides.{nat_tests}
 use Rattle.std.proofs.lemmas.List.{places, with_items_is}
 use Rattle.device.proofs.Blocks.{fits_bounds}
@@ -8,7 +8,6 @@ use Rattle.cover.proofs.Entries.{entry_holds}
 use Rattle.cover.proofs.Shown.{room, zeros_write, shown_write}
 use Rattle.cover.specs.Entries.{entry_of}
 use Rattle.cover.specs.Meaning.{contents}
-use Rattle.cover.specs.Shown.{shown}
 use Rattle.cover.proofs.cover_device.writes.CoverDevice.write.Goals as goal
 
 pub slice_bounds-copy_from_slice-end : goal.slice_bounds-copy_from_slice-end
@@ -43,7 +42,7 @@ invariant_of-self c =
     record {
       sized = (omega arith, s.sized.1);
       zeros = zeros_write size p s.len _ (i * z + at % z) s.table (vec_items s.buf) _ s.medium.now c.args.src.now at i (omega arith) s.zeros b.0 to begin
-        (λ x. grind (arith, places, nat_tests, with_items_is));
+          (λ x. grind (arith, places, nat_tests, with_items_is));
     }
 
 pub returns-clause-bytes : goal.returns-clause-bytes
