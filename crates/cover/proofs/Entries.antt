@@ -16,6 +16,7 @@ same_option None (Some b) e = absurd (both_ways false refl e)
 same_option (Some a) None e = absurd (both_ways false refl e)
 same_option (Some a) (Some b) e = ap Some (eqb-true a b e)
 
+-- where all are unmarked, no block is named
 pub entry_none : (n b : ℕ) → entry_of (replicate n None) (Some b) ≡ None
 entry_none n b =
     let f = prefix_len-replicate (λ e. not (option_eq nat_eq e (Some b))) n None refl in
@@ -29,8 +30,9 @@ entry_holds xs w i e = let s = position-Some (λ e. option_eq nat_eq e w) xs i N
 entry_fails : (xs : List (Option ℕ)) (w : Option ℕ) → entry_of xs w ≡ None → (k : ℕ) (d : Option ℕ) → k < length xs → option_eq nat_eq (get_or xs k d) w ≡ false
 entry_fails xs w e k d h = fails_before_first (λ e. option_eq nat_eq e w) xs k d (grind (arith, nat_tests))
 
--- a mark of an unmarked entry, for a block that no entry names
+-- a mark of an unmarked entry
 module _ (xs : List (Option ℕ)) (b i : ℕ) (free : entry_of xs None ≡ Some i) where
+  -- of a block that no entry names
   pub mark_named : entry_of xs (Some b) ≡ None → entry_of (set xs i (Some b)) (Some b) ≡ Some i
   mark_named none =
       let u = entry_holds xs None i free in

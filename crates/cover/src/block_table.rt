@@ -59,7 +59,6 @@ impl BlockTable {
         requires { i < length self.old }
         ensures { self.new ≡ slice_set self.old i (Some block) }
     {
-        let entries = &mut self.slots[..self.live];
-        entries[i] = Some(block);
+        self.slots[..self.live][i] = Some(block);
     }
 }

@@ -10,6 +10,22 @@ use Rattle.cover.specs.Entries.{entry_of}
 use Rattle.cover.specs.Meaning.{contents}
 use Rattle.cover.proofs.cover_device.writes.CoverDevice.write.Goals as goal
 
+pub overflow_add-start-2 : goal.overflow_add-start-2
+overflow_add-start-2 c =
+    let s = c.cover_block.new.self in
+    let size = s.geometry.block_size in
+    let z = c.bytes-size.result in
+    let at = c.args.at in
+    let i = c.in_ok-i.i in
+    let p : 0 < size = search rules in
+    let same : z ≡ size = search rules in
+    let fit : fits s.geometry.capacity size at (length c.args.src.now) ≡ true = search rules in
+    let b = fits_bounds s.geometry.capacity size at (length c.args.src.now) p fit in
+    let begin : i * z + at % z ≡ i * size + at % size = ap (λ x. i * x + at % x) same in
+    let to : entry_of s.table (Some (at / z)) ≡ Some i = search rules in
+    let r = room size p (length s.table) i (vec_len s.buf) (entry_holds s.table (Some (at / z)) i to).0 s.sized.1 in
+    search rules
+
 pub slice_bounds-copy_from_slice-end : goal.slice_bounds-copy_from_slice-end
 slice_bounds-copy_from_slice-end c =
     let s = c.cover_block.new.self in
