@@ -1,5 +1,2 @@
-mod Clipped
 mod Entries
-mod Fresh
 mod Shown
-mod Writes

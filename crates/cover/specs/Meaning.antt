@@ -3,13 +3,13 @@
 --   byte_at              the byte at the place k
 --   contents             its bytes
 --   covers               whether the block b is covered
-use Rattle.std.specs.Prelude.{ℕ, Bool, List, take, is_some, Some, vec_items, Option}
+use Rattle.std.specs.Prelude.{ℕ, Bool, List, is_some, Some, vec_items, Option}
 use Rattle.cover.specs.Entries.{entry_of}
 use Rattle.cover.specs.Shown.{seen, shown}
 use Rattle.cover.specs.declared.cover_device.Cover.{Cover}
 
 abbrev pub entries : Cover → List (Option ℕ)
-entries c = take c.live c.table.slots
+entries c = c.table
 
 abbrev pub byte_at : Cover → ℕ → ℕ
 byte_at c k = seen c.geometry.block_size (entries c) (vec_items c.buf) c.medium.now k
@@ -18,4 +18,4 @@ abbrev pub contents : Cover → List ℕ
 contents c = shown c.len c.geometry.block_size (entries c) (vec_items c.buf) c.medium.now
 
 abbrev pub covers : Cover → ℕ → Bool
-covers c b = is_some (entry_of 0 (entries c) (Some b))
+covers c b = is_some (entry_of (entries c) (Some b))

@@ -1,100 +1,64 @@
 // The block table of a cover: which block each entry covers.
-ghost use Rattle.std.specs.Prelude.{◌≡◌, ◌<◌, ◌≤◌, length, take, replicate, IfSome, Some, None, slice_set};
-ghost use Rattle.cover.specs.Entries.{same_entry, entry_of, target, unmarked};
+ghost use Rattle.std.specs.Prelude.{◌≡◌, ◌<◌, ◌≤◌, min, length, replicate, IfSome, Some, None, slice_set};
+ghost use Rattle.cover.specs.Entries.{entry_of, unmarked};
 
-pub(crate) const ENTRIES: usize = 64;
+use std::marker::Model;
+
+const ENTRIES: usize = 64;
 
 // An entry names the block that it covers, or none. Only the first `live` entries are used: those with room in the cover.
-#[derive(Clone, Copy)]
+#[derive(Drop)]
 pub(crate) struct BlockTable {
     slots: [Option<u64>; ENTRIES],
+    live: usize,
 }
 
-fn same_entry(a: Option<u64>, b: Option<u64>) -> bool
-    ensures { result ≡ same_entry a b }
-{
-    match (a, b) {
-        (None, None) => true,
-        (Some(a), Some(b)) => a == b,
-        _ => false,
-    }
-}
+// The entries that are used.
+impl Model for BlockTable {
+    ghost use Rattle.std.specs.Prelude.{ℕ, ◌≤◌, List, Option, take};
 
-// Over a slice, whose length each turn knows.
-fn find_in(entries: &[Option<u64>], wanted: Option<u64>) -> Option<usize>
-    ensures value { result ≡ entry_of 0 entries.now wanted }
-    ensures bound { IfSome result (λ i. i < length entries.now) }
-{
-    for i in 0..entries.len() {
-        if same_entry(entries[i], wanted) {
-            return Some(i);
-        }
-    }
-    None
-}
+    ghost Value = { List (Option ℕ) };
 
-fn count_in(entries: &[Option<u64>]) -> usize
-    ensures { result ≡ unmarked entries.now }
-{
-    let mut n = 0;
-    for i in 0..entries.len() {
-        if same_entry(entries[i], None) {
-            n += 1;
-        }
-    }
-    n
-}
+    ghost view = { λ t. take t.live t.slots };
 
-fn name_block(entry: &mut Option<u64>, block: u64)
-    ensures { entry.new ≡ Some block }
-{
-    *entry = Some(block);
+    ghost invariant = { λ t. t.live ≤ 64 };
 }
 
 impl BlockTable {
-    pub(crate) fn new() -> BlockTable
-        ensures { result.slots ≡ replicate 64 None }
+    // As many entries as there is room for, at most 64, and no block covered.
+    pub(crate) fn new(room: usize) -> BlockTable
+        ensures { result ≡ replicate (min room 64) None }
     {
         BlockTable {
             slots: [None; ENTRIES],
+            live: room.min(ENTRIES),
         }
+    }
+
+    fn entries(&self) -> &[Option<u64>]
+        ensures { result.now ≡ self.now }
+    {
+        &self.slots[..self.live]
     }
 
     // The first entry that holds `wanted`.
-    pub(crate) fn find(&self, live: usize, wanted: Option<u64>) -> Option<usize>
-        requires { live ≤ 64 }
-        ensures value { result ≡ entry_of 0 (take live self.now.slots) wanted }
-        ensures bound { IfSome result (λ i. i < live) }
+    pub(crate) fn find(&self, wanted: Option<u64>) -> Option<usize>
+        ensures value { result ≡ entry_of self.now wanted }
+        ensures bound { IfSome result (λ i. i < length self.now) }
     {
-        find_in(&self.slots[0..live], wanted)
+        self.entries().iter().position(|e| *e == wanted)
     }
 
-    pub(crate) fn unmarked(&self, live: usize) -> usize
-        requires { live ≤ 64 }
-        ensures { result ≡ unmarked (take live self.now.slots) }
+    pub(crate) fn unmarked(&self) -> usize
+        ensures { result ≡ unmarked self.now }
     {
-        count_in(&self.slots[0..live])
-    }
-
-    // The entry that a write to the block goes to, and whether it covers the block already.
-    pub(crate) fn target(&self, live: usize, block: u64) -> Option<(usize, bool)>
-        requires { live ≤ 64 }
-        ensures value { result ≡ target (take live self.now.slots) block }
-        ensures bound { IfSome result (λ p. p.0 < live) }
-    {
-        if let Some(i) = self.find(live, Some(block)) {
-            return Some((i, true));
-        }
-        match self.find(live, None) {
-            Some(i) => Some((i, false)),
-            None => None,
-        }
+        self.entries().iter().filter(|e| e.is_none()).count()
     }
 
     pub(crate) fn mark(&mut self, i: usize, block: u64)
-        requires { i < 64 }
-        ensures { self.new.slots ≡ slice_set self.old.slots i (Some block) }
+        requires { i < length self.old }
+        ensures { self.new ≡ slice_set self.old i (Some block) }
     {
-        name_block(&mut self.slots[i], block);
+        self.slots[..self.live][i] = Some(block);
     }
 }

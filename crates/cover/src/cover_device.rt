@@ -1,5 +1,5 @@
 // The state of a cover.
-ghost use Rattle.std.specs.Prelude.{◌≡◌, ℕ, ◌*◌, ◌≤◌, take, vec_len};
+ghost use Rattle.std.specs.Prelude.{◌≡◌, ℕ, ◌*◌, ◌≤◌, length, vec_len};
 ghost use Rattle.cover.specs.Shown.{seen};
 
 use crate::block_table::BlockTable;
@@ -16,10 +16,8 @@ pub struct Cover<'a> {
     // Block i of it belongs to entry i of the table.
     buf: Vec<u8>,
     table: BlockTable,
-    // How many entries have a whole block of the buffer.
-    live: usize,
     len: u64,
     geometry: Geometry,
-    ghost sized: { (len ≤ geometry.capacity) × (live ≤ 64) × (live * geometry.block_size ≤ vec_len buf) },
-    ghost zeros: { (k : ℕ) → len ≤ k → seen geometry.block_size (take live table.slots) buf.items medium.now k ≡ 0 },
+    ghost sized: { (len ≤ geometry.capacity) × (length table * geometry.block_size ≤ vec_len buf) },
+    ghost zeros: { (k : ℕ) → len ≤ k → seen geometry.block_size table buf.items medium.now k ≡ 0 },
 }

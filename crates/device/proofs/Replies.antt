@@ -1,21 +1,9 @@
--- Which reply a write gets, by what a caller knows of the device, and what the reply of a read says. Assumes nothing.
-use Rattle.std.proofs.Common.{◌≡◌, ℕ, ◌/◌, ◌<◌, Bool, true, false, ◌||◌, ltb, List, Ok, Err, arith}
+-- What the reply of a read says. Assumes nothing.
+use Rattle.std.proofs.Common.{◌≡◌, ℕ, true, false, List, Ok, Err, arith}
 use Rattle.std.proofs.lemmas.Bool.{cond_both}
-use Rattle.std.proofs.lemmas.Bool.Decides.{nat_tests}
 use Rattle.device.specs.Reads.{inside, begins, available, exact_reply, eof_reply}
-use Rattle.device.specs.Writes.{fits, write_reply}
 use Rattle.device.specs.declared.error.DeviceError.{DeviceError}
-use Rattle.device.specs.declared.error.DeviceError.TheVariants.{NoSpare}
 
-pub accepted : (capacity size : ℕ) (loose : ℕ → Bool) (spare at n : ℕ) → fits capacity size at n ≡ true → (loose (at / size) || ltb 0 spare) ≡ true
-    → Ok tt ≡ write_reply capacity size loose spare at n
-accepted capacity size loose spare at n fit free = grind (arith, nat_tests)
-
-pub no_spare : (capacity size : ℕ) (loose : ℕ → Bool) (spare at n : ℕ) → 0 < n → fits capacity size at n ≡ true → loose (at / size) ≡ false → spare ≡ 0
-    → Err NoSpare ≡ write_reply capacity size loose spare at n
-no_spare capacity size loose spare at n some fit shut none = grind (arith, nat_tests)
-
--- ---- reads
 pub exact_ok : (first from n : ℕ) (bytes : List ℕ) (u : Unit {0}) → Ok u ≡ exact_reply first bytes from n → inside first bytes from n ≡ true
 exact_ok first from n bytes u =
     cond_both (inside first bytes from n) _ _ (λ r. Ok u ≡ r → inside first bytes from n ≡ true) (λ t e. t)

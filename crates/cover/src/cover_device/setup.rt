@@ -6,7 +6,7 @@ ghost use Rattle.cover.specs.Made.{cover_refusal, cover_blocks};
 ghost use Rattle.cover.specs.Meaning.{entries, contents, covers};
 
 use crate::Cover;
-use crate::block_table::{BlockTable, ENTRIES};
+use crate::block_table::BlockTable;
 use device::{BasedBuf, DeviceError, Geometry};
 
 impl<'a> Cover<'a> {
@@ -29,13 +29,11 @@ impl<'a> Cover<'a> {
         if medium.offset != 0 || len > capacity {
             return Err(DeviceError::Outside);
         }
-        let live = (buf.len() / block_size as usize).min(ENTRIES);
-        let table = BlockTable::new();
+        let table = BlockTable::new(buf.len() / block_size as usize);
         Ok(Cover {
             medium: medium.buf,
             buf,
             table,
-            live,
             len,
             geometry,
         })
@@ -49,7 +47,6 @@ impl<'a> Cover<'a> {
             medium: _,
             buf,
             table: _,
-            live: _,
             len: _,
             geometry: _,
         } = self;

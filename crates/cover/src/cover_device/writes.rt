@@ -1,30 +1,41 @@
 // How a cover is asked and written.
-ghost use Rattle.std.specs.Prelude.{◌≡◌, ◌+◌, ◌/◌, ◌^◌, ◌<◌, cond, IfOk, Err};
-ghost use Rattle.std.specs.Option.{ok_or};
-ghost use Rattle.device.specs.Writes.{fits};
-ghost use Rattle.device.specs.declared.error.DeviceError.TheVariants.{Outside, NoSpare};
-ghost use Rattle.cover.specs.Entries.{target, unmarked};
-ghost use Rattle.cover.specs.Meaning.{entries, covers};
+ghost use Rattle.std.specs.Prelude.{◌≡◌, ℕ, ◌*◌, ◌-◌, ◌^◌, ◌<◌, ◌||◌, ◌==◌, nat_lt, if◌then◌else◌, true, Some, is_ok, IfOk, MatchResult, refl};
+ghost use Rattle.device.specs.declared.error.DeviceError.TheVariants.{NoSpare};
+ghost use Rattle.cover.specs.Entries.{entry_of, unmarked};
+ghost use Rattle.cover.specs.Meaning.{entries, contents, covers};
 
 use crate::Cover;
-use crate::blocks::lay_vec;
+use crate::blocks::copy_padded;
 use device::{Device, DeviceError};
+use layout::SegmentSize;
 
 impl<'a> Cover<'a> {
-    // The entry that a write goes to, and whether it covers the block already.
-    fn admit(&self, at: u64, n: u64) -> Result<(usize, bool), DeviceError>
-        ensures reply { result ≡ cond (fits self.now.geometry.capacity self.now.geometry.block_size at n)
-            (ok_or (target (entries self.now) (at / self.now.geometry.block_size)) NoSpare) (Err Outside) }
-        ensures bound { IfOk result (λ p. (p.0 < self.now.live) × (at + n < 2 ^ 64)) }
+    // The entry of a block. Where no entry names it, an unmarked one first gets it, and its bytes.
+    fn cover_block(&mut self, block: u64) -> Result<usize, DeviceError>
+        requires { block * self.old.geometry.block_size < 2 ^ 64 }
+        ensures variant { is_ok result ≡ (covers self.old block || nat_lt 0 (unmarked (entries self.old))) }
+        ensures reply { MatchResult result
+            (λ i. entry_of (entries self.new) (Some block) ≡ Some i)
+            (λ e. (e ≡ NoSpare) × (self.new ≡ self.old)) }
+        ensures bytes { contents self.new ≡ contents self.old }
+        ensures same { (self.new.geometry ≡ self.old.geometry) × (self.new.len ≡ self.old.len) }
+        ensures covered { IfOk result (λ _. (b : ℕ) → covers self.new b ≡ (covers self.old b || b == block)) }
+        ensures spare { IfOk result (λ _. unmarked (entries self.new) ≡
+            (if covers self.old block then unmarked (entries self.old) else unmarked (entries self.old) - 1)) }
     {
-        if !self.geometry.fits(at, n) {
-            return Err(DeviceError::Outside);
+        if let Some(i) = self.table.find(Some(block)) {
+            return Ok(i);
         }
-        let block = at / self.geometry.block_size();
-        match self.table.target(self.live, block) {
-            Some(entry) => Ok(entry),
-            None => Err(DeviceError::NoSpare),
-        }
+        let i = self.table.find(None).ok_or(DeviceError::NoSpare)?;
+        let size = self.geometry.block_size().bytes() as usize;
+        let start = i * size;
+        copy_padded(
+            &mut self.buf.as_mut_slice()[start..start + size],
+            self.medium,
+            block as usize * size,
+        );
+        self.table.mark(i, block);
+        Ok(i)
     }
 }
 
@@ -45,16 +56,16 @@ impl<'a> Device for Cover<'a> {
         self.geometry.capacity()
     }
 
-    fn block_size(&self) -> u64 {
+    fn block_size(&self) -> SegmentSize {
         self.geometry.block_size()
     }
 
     fn is_loose(&self, block: u64) -> bool {
-        self.table.find(self.live, Some(block)).is_some()
+        self.table.find(Some(block)).is_some()
     }
 
     fn spare(&self) -> u64 {
-        self.table.unmarked(self.live) as u64
+        self.table.unmarked() as u64
     }
 
     fn write(&mut self, src: &[u8], at: u64) -> Result<(), DeviceError> {
@@ -62,22 +73,16 @@ impl<'a> Device for Cover<'a> {
             return Ok(());
         }
         let n = src.len() as u64;
-        let (i, covered) = self.admit(at, n)?;
-        let size = self.geometry.block_size();
-        let block = at / size;
-        let start = i * size as usize;
-        lay_vec(
-            &mut self.buf,
-            start,
-            size as usize,
-            self.medium,
-            (block * size) as usize,
-            covered,
-            src,
-            (at % size) as usize,
-        );
-        self.table.mark(i, block);
+        if !self.geometry.fits(at, n) {
+            return Err(DeviceError::Outside);
+        }
+        let size = self.geometry.block_size().bytes();
+        let i = self.cover_block(at / size)?;
+        let start = i * size as usize + (at % size) as usize;
+        self.buf.as_mut_slice()[start..start + src.len()].copy_from_slice(src);
         self.len = self.len.max(at + n);
         Ok(())
     }
+
+    ghost base = { λ _. refl };
 }
