@@ -6,7 +6,7 @@ ghost use Rattle.std.specs.Result.{result_ok};
 ghost use Rattle.codec.specs.Numbers.{Bytes, number, second, shortest, width, Examples};
 
 use crate::CodecError;
-use crate::little::{get_field, put_octets};
+use crate::little::{get_field, put_bytes};
 
 // The largest numbers in one, two and three bytes.
 const ONE_BYTE_MAX: u64 = 240;
@@ -28,16 +28,16 @@ const THREE_BYTES: u8 = 249;
 const LONG_BASE: u8 = 247;
 
 // The first byte, and the bytes past it.
+#[tactic(auto, unfolding(crate::specs::Numbers::second))]
 pub(crate) fn get_byte(buf: &[u8]) -> Result<(u8, &[u8]), CodecError>
     ensures { option_map (λ p. (p.0, p.1.now)) (result_ok result) ≡ second 0 buf.now }
 {
-    match buf.split_first() {
-        Some((first, rest)) => Ok((*first, rest)),
-        None => Err(CodecError::TooShort),
-    }
+    let (first, rest) = buf.split_first().ok_or(CodecError::TooShort)?;
+    Ok((*first, rest))
 }
 
 // The number at the front, and the bytes past it.
+#[tactic(auto, unfolding(crate::specs::Numbers::number, crate::specs::Numbers::second))]
 pub(crate) fn get_number(buf: &[u8]) -> Result<(u64, &[u8]), CodecError>
     ensures { option_map (λ p. (p.0, p.1.now)) (result_ok result) ≡ number buf.now }
 {
@@ -76,6 +76,7 @@ fn long_len(n: u64) -> usize
 }
 
 // How many bytes the form takes that is written.
+#[tactic(auto, using(crate::proofs::Forms::length_long), unfolding(crate::specs::Numbers::shortest))]
 pub(crate) fn form_len(n: u64) -> usize
     ensures value { result ≡ length (shortest n) }
     ensures bounds { (1 ≤ result) × (result ≤ 9) }
@@ -101,29 +102,23 @@ pub fn number_len(n: u64) -> usize
 }
 
 // Writes `n` at `at` in its shortest form, and says where it ends.
+#[tactic(auto, unfolding(crate::specs::Numbers::shortest))]
 pub(crate) fn put_number(buf: &mut [u8], at: usize, n: u64) -> usize
     requires { at + length (shortest n) ≤ length buf.old }
     ensures after { buf.new ≡ sets buf.old at (shortest n) }
     ensures end { result ≡ at + length (shortest n) }
 {
     if n <= ONE_BYTE_MAX {
-        buf[at] = n as u8;
-        at + 1
+        put_bytes(buf, at, &[n as u8])
     } else if n <= TWO_BYTES_MAX {
         let over = n - ONE_BYTE_MAX;
-        buf[at] = TWO_BYTES_FIRST + (over / 256) as u8;
-        buf[at + 1] = (over % 256) as u8;
-        at + 2
+        put_bytes(buf, at, &[TWO_BYTES_FIRST + (over / 256) as u8, (over % 256) as u8])
     } else if n <= THREE_BYTES_MAX {
         let over = n - TWO_BYTES_MAX - 1;
-        buf[at] = THREE_BYTES;
-        buf[at + 1] = (over / 256) as u8;
-        buf[at + 2] = (over % 256) as u8;
-        at + 3
+        put_bytes(buf, at, &[THREE_BYTES, (over / 256) as u8, (over % 256) as u8])
     } else {
         let k = long_len(n);
-        buf[at] = LONG_BASE + k as u8;
-        put_octets(buf, at + 1, k, n);
-        at + 1 + k
+        let at = put_bytes(buf, at, &[LONG_BASE + k as u8]);
+        put_bytes(buf, at, &n.to_le_bytes()[..k])
     }
 }

@@ -5,7 +5,7 @@ ghost use Rattle.std.specs.Int.{w64};
 ghost use Rattle.codec.specs.Fields.{below, eight, read_word};
 ghost use Rattle.codec.specs.Laws.{word_back};
 
-use crate::little::{get_field, has_room, put_octets};
+use crate::little::{get_field, write_bytes};
 use crate::{CodecError, Serialize};
 
 // A place in the log's own count of bytes.
@@ -50,13 +50,9 @@ impl Serialize for Word {
         8
     }
 
+    #[tactic(auto, using(crate::proofs::Octets::le_octets_8))]
     fn serialize_into(&self, buf: &mut [u8], at: usize) -> Result<usize, CodecError> {
-        let n = self.bits;
-        if !has_room(buf.len(), at, 8) {
-            return Err(CodecError::TooShort);
-        }
-        put_octets(buf, at, 8, n);
-        Ok(at + 8)
+        write_bytes(buf, at, &self.bits.to_le_bytes())
     }
 
     fn deserialize(buf: &[u8]) -> Result<(Word, &[u8]), CodecError> {
