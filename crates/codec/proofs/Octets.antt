@@ -1,11 +1,11 @@
 -- Fields of a fixed number of bytes. Assumes nothing.
-use Rattle.std.proofs.Common.{⊎_elim, sym, ap, ap₂, ◌∙◌, subst, arith, pow_mono, pow-suc, suc-add, get_or, map, length-append, length-drop, length-take, get_or-drop}
+use Rattle.std.proofs.Common.{⊎_elim, sym, ap, ap₂, ◌∙◌, subst, arith, pow-suc, suc-add, get_or, map, length-append, length-drop, length-take, get_or-drop}
 use Rattle.std.specs.Prelude.{◌≡◌, ℕ, zero, suc, ◌+◌, ◌-◌, ◌*◌, ◌/◌, ◌%◌, ◌^◌, ◌<◌, ◌≤◌, List, [], ◌∷◌, ◌++◌, length, take, drop, replicate, Some, nat_le, slice_index, refl}
 use Rattle.std.specs.Int.{byte_at, bytes_low_first, from_le_bytes, to_le_bytes, w32, w64}
 use Rattle.std.specs.List.{range_with_len}
 use Rattle.std.proofs.Math.Nat.{div-one, div-div-eq-div-mul}
 use Rattle.std.proofs.Math.Seq.{drop-nil}
-use Rattle.std.proofs.lemmas.List.{get_or-take, get_or_past, length-replicate, length-take-le}
+use Rattle.std.proofs.lemmas.List.{get_or-take, get_or_past, length-replicate}
 use Rattle.std.proofs.lemmas.List.FromFn.{fill_by_all}
 use Rattle.std.proofs.lemmas.Bool.{cond_both, cases_lt, leb-true}
 use Rattle.codec.specs.Laws.{bits-suc}

@@ -43,11 +43,11 @@ pub(crate) fn get_number(buf: &[u8]) -> Result<(u64, &[u8]), CodecError>
 {
     let (first, rest) = get_byte(buf)?;
     match first {
-        f if f <= ONE_BYTE_LAST => Ok((u64::from(f), rest)),
-        f if f <= TWO_BYTES_LAST => {
+        0..=ONE_BYTE_LAST => Ok((u64::from(first), rest)),
+        TWO_BYTES_FIRST..=TWO_BYTES_LAST => {
             let (b, rest) = get_byte(rest)?;
             Ok((
-                ONE_BYTE_MAX + 256 * u64::from(f - TWO_BYTES_FIRST) + u64::from(b),
+                ONE_BYTE_MAX + 256 * u64::from(first - TWO_BYTES_FIRST) + u64::from(b),
                 rest,
             ))
         }
@@ -56,7 +56,7 @@ pub(crate) fn get_number(buf: &[u8]) -> Result<(u64, &[u8]), CodecError>
             let (b, rest) = get_byte(rest)?;
             Ok((TWO_BYTES_MAX + 1 + 256 * u64::from(a) + u64::from(b), rest))
         }
-        f => get_field(rest, usize::from(f - LONG_BASE)),
+        _ => get_field(rest, usize::from(first - LONG_BASE)),
     }
 }
 
@@ -81,14 +81,11 @@ pub(crate) fn form_len(n: u64) -> usize
     ensures value { result ≡ length (shortest n) }
     ensures bounds { (1 ≤ result) × (result ≤ 9) }
 {
-    if n <= ONE_BYTE_MAX {
-        1
-    } else if n <= TWO_BYTES_MAX {
-        2
-    } else if n <= THREE_BYTES_MAX {
-        3
-    } else {
-        1 + long_len(n)
+    match n {
+        0..=ONE_BYTE_MAX => 1,
+        ..=TWO_BYTES_MAX => 2,
+        ..=THREE_BYTES_MAX => 3,
+        _ => 1 + long_len(n),
     }
 }
 
@@ -108,17 +105,22 @@ pub(crate) fn put_number(buf: &mut [u8], at: usize, n: u64) -> usize
     ensures after { buf.new ≡ sets buf.old at (shortest n) }
     ensures end { result ≡ at + length (shortest n) }
 {
-    if n <= ONE_BYTE_MAX {
-        put_bytes(buf, at, &[n as u8])
-    } else if n <= TWO_BYTES_MAX {
-        let over = n - ONE_BYTE_MAX;
-        put_bytes(buf, at, &[TWO_BYTES_FIRST + (over / 256) as u8, (over % 256) as u8])
-    } else if n <= THREE_BYTES_MAX {
-        let over = n - TWO_BYTES_MAX - 1;
-        put_bytes(buf, at, &[THREE_BYTES, (over / 256) as u8, (over % 256) as u8])
-    } else {
-        let k = long_len(n);
-        let at = put_bytes(buf, at, &[LONG_BASE + k as u8]);
-        put_bytes(buf, at, &n.to_le_bytes()[..k])
+    match n {
+        0..=ONE_BYTE_MAX => put_bytes(buf, at, &[n as u8]),
+        ..=TWO_BYTES_MAX => {
+            let over = n - ONE_BYTE_MAX;
+            let (high, low) = (over / 256, over % 256);
+            put_bytes(buf, at, &[TWO_BYTES_FIRST + high as u8, low as u8])
+        }
+        ..=THREE_BYTES_MAX => {
+            let over = n - TWO_BYTES_MAX - 1;
+            let (high, low) = (over / 256, over % 256);
+            put_bytes(buf, at, &[THREE_BYTES, high as u8, low as u8])
+        }
+        _ => {
+            let k = long_len(n);
+            let at = put_bytes(buf, at, &[LONG_BASE + k as u8]);
+            put_bytes(buf, at, &n.to_le_bytes()[..k])
+        }
     }
 }

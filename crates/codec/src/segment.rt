@@ -64,6 +64,7 @@ impl SegmentHeader {
         stored == checksum(&fields(self.lsn, self.max_stable_lsn))
     }
 
+    // The stored checksum, then the fields.
     fn to_bytes(self) -> [u8; SEG_HEADER_LEN]
         ensures value { result ≡ segment_header self }
         ensures fits { SegmentFits self }

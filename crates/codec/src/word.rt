@@ -1,12 +1,14 @@
 // Eight-byte fields: an LSN, a stable mark, a manifest's LSN, a blob pointer.
 ghost use Rattle.std.specs.Prelude.{◌≡◌, ◌^◌, ◌<◌, if◌then◌else◌, Some, None};
 ghost use Rattle.std.proofs.Common.{to_z};
+ghost use Rattle.std.specs.Fmt.{signed_decimal, styled_signed_decimal};
 ghost use Rattle.std.specs.Int.{w64};
 ghost use Rattle.codec.specs.Fields.{below, eight, read_word};
 ghost use Rattle.codec.specs.Laws.{word_back};
 
 use crate::little::{get_field, write_bytes};
 use crate::{CodecError, Serialize};
+use std::fmt::{self, Display, Formatter, Write};
 
 // A place in the log's own count of bytes.
 pub type Lsn = u64;
@@ -34,6 +36,17 @@ impl Word {
         ensures { result ≡ to_z w64 self.bits }
     {
         self.bits.cast_signed()
+    }
+}
+
+// The signed number.
+impl Display for Word {
+    ghost output = { λ w. Some (signed_decimal (to_z w64 w.bits)) };
+
+    ghost styled_output = { λ w style. Some (styled_signed_decimal style (to_z w64 w.bits)) };
+
+    fn fmt<W: Write>(&self, f: &mut Formatter<W>) -> fmt::Result {
+        Display::fmt(&self.signed(), f)
     }
 }
 
