@@ -50,6 +50,7 @@ pub(crate) fn check_room(len: usize, at: usize, n: usize) -> Result<(), CodecErr
 }
 
 // Writes `bytes` at `at`, and says where they end.
+#[tactic(auto, using(crate::proofs::Writes::put_part))]
 pub(crate) fn put_bytes(buf: &mut [u8], at: usize, bytes: &[u8]) -> usize
     requires { at + length bytes.now ≤ length buf.old }
     ensures after { buf.new ≡ sets buf.old at bytes.now }

@@ -85,6 +85,7 @@ impl Serialize for SegmentHeader {
 
     ghost back = { segment_back };
 
+    #[tactic(auto, unfolding(crate::specs::Numbers::octets))]
     fn serialized_size(&self) -> usize {
         SEG_HEADER_LEN
     }

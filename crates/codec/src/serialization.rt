@@ -71,6 +71,7 @@ impl Serialize for u32 {
 
     ghost back = { field_back 4 };
 
+    #[tactic(auto, unfolding(crate::specs::Numbers::octets))]
     fn serialized_size(&self) -> usize {
         4
     }

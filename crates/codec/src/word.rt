@@ -59,6 +59,7 @@ impl Serialize for Word {
 
     ghost back = { word_back };
 
+    #[tactic(auto, unfolding(crate::specs::Numbers::octets))]
     fn serialized_size(&self) -> usize {
         8
     }
