@@ -26,6 +26,7 @@ impl Slicer {
     }
 
     // The octet `b`, by the first table.
+    #[tactic(auto, using(crate::proofs::Octets::octet_is))]
     pub(crate) fn octet(self, register: u32, b: u8) -> u32
         ensures { result ≡ turns 8 (bit_xor register (b % 256)) }
     {
@@ -34,6 +35,7 @@ impl Slicer {
     }
 
     // Four octets as the word `a`, with `later` more to follow them.
+    #[tactic(auto, using(crate::proofs::Sliced::word_is))]
     fn word(self, later: usize, a: u32) -> u32
         requires { later ≤ 4 }
         ensures { result ≡ turns (8 * (later + 4)) a }
@@ -46,6 +48,7 @@ impl Slicer {
     }
 
     // Eight octets at once.
+    #[tactic(auto, using(crate::proofs::Sliced::eight_is))]
     pub(crate) fn eight(self, register: u32, octets: &[u8; 8]) -> u32
         ensures { result ≡ absorb register octets.now }
     {
