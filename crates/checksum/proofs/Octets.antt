@@ -1,6 +1,6 @@
 -- Octets into the register one by one, as the code takes them. Assumes nothing.
-use Rattle.std.proofs.Common.{◌≡◌, ℕ, ◌+◌, ◌-◌, ◌/◌, ◌%◌, ◌^◌, ◌<◌, ◌≤◌, List, ◌++◌, length, get_or, drop, sym, ap, ◌∙◌, mod-eq_of_lt, arith}
-use lib.Bits.{bit_xor, bit_and, xor_comm, xor_shr, and_mask, xor_zero_r}
+use Rattle.std.proofs.Common.{◌≡◌, ℕ, ◌+◌, ◌-◌, ◌/◌, ◌%◌, ◌^◌, ◌<◌, ◌≤◌, List, [], ◌∷◌, ◌++◌, length, get_or, drop, sym, ap, ◌∙◌, mod-eq_of_lt, arith}
+use lib.Bits.{bit_xor, xor_comm, xor_shr, xor_mod, xor_zero_r}
 use Rattle.std.proofs.lemmas.List.{at_drop_more, at_drop_all}
 use Rattle.checksum.specs.Crc.{crc32, continued}
 use Rattle.checksum.specs.Register.{turns, absorb}
@@ -26,9 +26,11 @@ joined crc r bs e xs h = e ∙ ap (λ n. continued n bs) h ∙ sym (crc32-append
 pub octet_table : (c : ℕ) → turns 8 c ≡ bit_xor (turns 8 (c % 256)) (c / 256)
 octet_table c = turns_split 8 c ∙ xor_comm (c / 256) (turns 8 (c % 256))
 
-pub octet_is : (c b f e : ℕ) → b < 256 → f ≡ b → e ≡ turns 8 (bit_and (bit_xor c f) 255) → bit_xor e (c / 256) ≡ turns 8 (bit_xor c (b % 256))
-octet_is c b f e lt p q =
+pub octet_is : (c b e : ℕ) (l : List ℕ) → b < 256 → l ≡ (c % 256) ∷ (c / 256 % 256) ∷ (c / 65536 % 256) ∷ (c / 16777216 % 256) ∷ []
+    → e ≡ turns 8 (bit_xor (get_or l 0 0) b) → bit_xor e (c / 256) ≡ turns 8 (bit_xor c (b % 256))
+octet_is c b e l lt p q =
     let none : b / 256 ≡ 0 = omega arith in
-    ap (λ n. bit_xor n (c / 256)) (q ∙ ap (λ n. turns 8 (bit_and (bit_xor c n) 255)) p ∙ ap (turns 8) (and_mask (bit_xor c b) 8))
+    ap (λ n. bit_xor n (c / 256))
+    (q ∙ ap (λ m. turns 8 (bit_xor (get_or m 0 0) b)) p ∙ ap (λ n. turns 8 (bit_xor (c % 256) n)) (sym (mod-eq_of_lt lt)) ∙ ap (turns 8) (sym (xor_mod c b 8)))
     ∙ ap (bit_xor (turns 8 (bit_xor c b % 256))) (sym (xor_shr c b 8 ∙ ap (bit_xor (c / 256)) none ∙ xor_zero_r (c / 256)))
     ∙ sym (octet_table (bit_xor c b)) ∙ ap (λ n. turns 8 (bit_xor c n)) (sym (mod-eq_of_lt lt))

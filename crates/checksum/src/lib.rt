@@ -10,8 +10,7 @@ ghost use Rattle.std.specs.Prelude.{◌≡◌, ℕ, true, List, ◌∷◌, ◌++
 ghost use Rattle.checksum.specs.Crc.{generator, crc32, continued};
 ghost use Rattle.checksum.specs.Division.{value, LeavesRemainder, LeavesNoOther};
 
-use slicing::{eight, octet};
-use tables::tables;
+use slicing::Slicer;
 
 // The checksum of `bytes` alone.
 pub fn checksum(bytes: &[u8]) -> u32
@@ -25,15 +24,14 @@ pub fn update(crc: u32, bytes: &[u8]) -> u32
     ensures value { result ≡ continued crc bytes.now }
     ensures joined { (xs : List ℕ) → crc ≡ crc32 xs → result ≡ crc32 (xs ++ bytes.now) }
 {
-    let t = tables();
+    let slicer = Slicer::new();
     let mut register = !crc;
-    let mut rest = bytes;
-    while rest.len() >= 8 {
-        register = eight(t, register, rest);
-        rest = &rest[8..];
+    let (words, rest) = bytes.as_chunks::<8>();
+    for word in words {
+        register = slicer.eight(register, word);
     }
     for b in rest {
-        register = octet(t, register, *b);
+        register = slicer.octet(register, *b);
     }
     !register
 }

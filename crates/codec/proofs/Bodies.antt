@@ -1,6 +1,7 @@
 -- Messages and their headers. Assumes nothing.
 use Rattle.std.specs.Prelude.{◌≡◌, ℕ, ◌+◌, ◌-◌, ◌≤◌, List, [], ◌∷◌, ◌++◌, length, take, Some}
-use Rattle.std.proofs.Common.{sym, ap, ◌∙◌, append_assoc, arith, length-append, drop_at}
+use Rattle.std.proofs.Common.{sym, ap, ap₂, ◌∙◌, append_assoc, arith, length-append, drop_at}
+use Rattle.std.specs.Int.{to_le_bytes, w32}
 use Rattle.std.proofs.lemmas.List.Edits.{sets}
 use Rattle.checksum.specs.Crc.{crc32}
 use Rattle.layout.specs.Kinds.{kind_number}
@@ -11,6 +12,8 @@ use Rattle.codec.specs.Segments.{complement}
 use Rattle.layout.specs.declared.kind.MessageKind.{MessageKind}
 use Rattle.codec.specs.declared.message.Message.{Message}
 use Rattle.codec.specs.declared.message_header.MessageHeader.{MessageHeader}
+use Rattle.codec.proofs.Forms.{length-shortest}
+use Rattle.codec.proofs.Octets.{le_octets_4}
 use Rattle.codec.proofs.Writes.{sets_then, take_front}
 
 -- ---- lengths
@@ -24,21 +27,24 @@ length_header h =
     length-append (octets 4 h.crc32) (behind h.kind h.len h.segment_number h.pid)
     ∙ omega (arith, length-octets 4 h.crc32, length_behind h.kind h.len h.segment_number h.pid)
 
+pub header_short : (h : MessageHeader) → MessageFits h → length (message_header h) ≤ 32
+header_short h v = omega (arith, length_header h, length-shortest h.len v.1, length-shortest h.segment_number v.2, length-shortest h.pid v.3)
+
 -- ---- writing
-pub put_header : (h : MessageHeader) (l m1 m2 m3 m4 m5 : List ℕ) (at a2 a3 : ℕ)
-    → m1 ≡ sets l at (octets 4 h.crc32) → m2 ≡ sets m1 (at + 4) (kind_number h.kind ∷ [])
-    → m3 ≡ sets m2 (at + 5) (shortest h.len) → a2 ≡ at + 5 + length (shortest h.len)
-    → m4 ≡ sets m3 a2 (shortest h.segment_number) → a3 ≡ a2 + length (shortest h.segment_number)
-    → m5 ≡ sets m4 a3 (shortest h.pid) → m5 ≡ sets l at (message_header h)
-put_header h l m1 m2 m3 m4 m5 at a2 a3 e1 e2 e3 n2 e4 n3 e5 =
-    let k = kind_number h.kind ∷ [] in
+pub put_header : (h : MessageHeader) (l m1 m2 m3 m4 m5 bs : List ℕ) (at a1 a2 a3 a4 k : ℕ) → bs ≡ to_le_bytes w32 h.crc32 → k ≡ kind_number h.kind
+    → m1 ≡ sets l at bs → a1 ≡ at + length bs → m2 ≡ sets m1 a1 (k ∷ []) → a2 ≡ a1 + 1
+    → m3 ≡ sets m2 a2 (shortest h.len) → a3 ≡ a2 + length (shortest h.len)
+    → m4 ≡ sets m3 a3 (shortest h.segment_number) → a4 ≡ a3 + length (shortest h.segment_number)
+    → m5 ≡ sets m4 a4 (shortest h.pid) → m5 ≡ sets l at (message_header h)
+put_header h l m1 m2 m3 m4 m5 bs at a1 a2 a3 a4 k f g e1 n1 e2 n2 e3 n3 e4 n4 e5 =
     let a = shortest h.len in
     let b = shortest h.segment_number in
     let c = shortest h.pid in
-    sets_then l m1 m5 at (at + 4) (octets 4 h.crc32) (k ++ (a ++ (b ++ c))) e1 (omega (arith, length-octets 4 h.crc32))
-    (sets_then m1 m2 m5 (at + 4) (at + 5) k (a ++ (b ++ c)) e2 (omega arith)
-    (sets_then m2 m3 m5 (at + 5) a2 a (b ++ c) e3 n2
-    (sets_then m3 m4 m5 a2 a3 b c e4 n3 e5)))
+    sets_then l m1 m5 at a1 bs (k ∷ [] ++ (a ++ (b ++ c))) e1 n1
+    (sets_then m1 m2 m5 a1 a2 (k ∷ []) (a ++ (b ++ c)) e2 n2
+    (sets_then m2 m3 m5 a2 a3 a (b ++ c) e3 n3
+    (sets_then m3 m4 m5 a3 a4 b c e4 n4 e5)))
+    ∙ ap₂ (λ x y. sets l at (x ++ (y ∷ [] ++ (a ++ (b ++ c))))) (le_octets_4 h.crc32 bs f) g
 
 -- ---- whole messages
 abbrev pub unsummed : MessageKind → ℕ → ℕ → ℕ → MessageHeader

@@ -1,12 +1,14 @@
 -- A number that is written is read back. Assumes nothing.
-use Rattle.std.specs.Prelude.{◌≡◌, ℕ, suc, ◌+◌, ◌-◌, ◌*◌, ◌^◌, ◌<◌, ◌≤◌, ◌⊎◌, List, [], ◌∷◌, length, take, Some, Option, ◌==◌, nat_le, nat_lt, slice_set, refl}
-use Rattle.std.proofs.Common.{inl, inr, ⊎_elim, sym, ap, ap₂, ◌∙◌, subst, arith, length-drop, pow_mono, add-one}
+use Rattle.std.specs.Prelude.{◌≡◌, ℕ, suc, ◌+◌, ◌-◌, ◌*◌, ◌^◌, ◌<◌, ◌≤◌, ◌⊎◌, List, [], ◌∷◌, length, take, Some, Option, ◌==◌, nat_le, nat_lt, refl}
+use Rattle.std.proofs.Common.{inl, inr, ⊎_elim, sym, ap, ◌∙◌, subst, arith, length-drop, pow_mono}
+use Rattle.std.specs.Int.{to_le_bytes, w64}
 use Rattle.std.proofs.lemmas.List.Edits.{sets}
 use Rattle.std.proofs.lemmas.List.{length-take-le}
 use Rattle.std.proofs.lemmas.Bool.{cond-true, cond-false, cond_both, cases_lt, le-leb, lt-leb, leb-true, leb-false, ltb-true, ltb-false, eqb-false}
 use Rattle.codec.specs.Laws.{length-octets}
 use Rattle.codec.specs.Numbers.{Bytes, octets, field, second, third, number, width, shortest, Examples}
-use Rattle.codec.proofs.Octets.{little-lt, bytes_part, field_read, some_is}
+use Rattle.codec.proofs.Octets.{little-lt, take-le_octets, bytes_part, field_read, some_is}
+use Rattle.codec.proofs.Writes.{sets_then}
 
 -- the width holds the number, and lies from 3 to 8
 pub record Wide (n w : ℕ) : Type 0 where
@@ -32,9 +34,11 @@ shortest_long n h =
 pub length_long : (n w : ℕ) → 67823 < n → w ≡ width n → 1 + w ≡ length (shortest n)
 length_long n w h e = omega (arith, e, ap length (shortest_long n h), length-octets (width n) n)
 
-pub put_long : (l m : List ℕ) (at n w : ℕ) → 67823 < n → w ≡ width n → m ≡ sets (slice_set l at (247 + w)) (at + 1) (octets w n) → m ≡ sets l at (shortest n)
-put_long l m at n w h e p =
-    p ∙ ap₂ (λ k i. sets (slice_set l at (247 + k)) i (octets k n)) e (add-one at) ∙ ap (sets l at) (sym (shortest_long n h))
+pub put_long : (l m1 m2 bs : List ℕ) (at a n w : ℕ) → 67823 < n → w ≡ width n → w ≤ 8 → bs ≡ to_le_bytes w64 n
+    → m1 ≡ sets l at ((247 + w) ∷ []) → a ≡ at + 1 → m2 ≡ sets m1 a (take w bs) → m2 ≡ sets l at (shortest n)
+put_long l m1 m2 bs at a n w h e f t p q r =
+    sets_then l m1 m2 at a ((247 + w) ∷ []) (octets w n) p q (r ∙ ap (sets m1 a) (take-le_octets w n bs f t))
+    ∙ ap (λ k. sets l at ((247 + k) ∷ octets k n)) e ∙ ap (sets l at) (sym (shortest_long n h))
 
 pub length-shortest : (n : ℕ) → n < 2 ^ 64 → length (shortest n) ≤ 9
 unfolding shortest

@@ -1,6 +1,7 @@
 -- Segment headers. Assumes nothing.
 use Rattle.std.specs.Prelude.{◌≡◌, ℕ, ◌+◌, ◌^◌, ◌<◌, true, false, List, ◌++◌, length, take, drop, replicate, Some, None, Option, ◌==◌, nat_eq, refl}
 use Rattle.std.proofs.Common.{sym, ap, ap₂, ◌∙◌, subst, arith, length-append, take-add, get_or-drop}
+use Rattle.std.specs.Int.{to_le_bytes, w32, w64}
 use Rattle.std.proofs.lemmas.List.Edits.{sets}
 use Rattle.std.proofs.lemmas.List.{take_at, drop_at, take_all, length-take-le, length-drop}
 use Rattle.std.proofs.lemmas.Bool.{eq-eqb}
@@ -11,7 +12,7 @@ use Rattle.codec.specs.Numbers.{Bytes, octets, little, field}
 use Rattle.codec.specs.Serial.{next}
 use Rattle.codec.specs.Segments.{masked, complement, fields, segment_header, read_segment_header, segment_of, checks}
 use Rattle.codec.specs.declared.segment.SegmentHeader.{SegmentHeader}
-use Rattle.codec.proofs.Octets.{octets-little, bytes_part, Read, field_read, some_is}
+use Rattle.codec.proofs.Octets.{le_octets_4, le_octets_8, octets-little, bytes_part, Read, field_read, some_is}
 use Rattle.codec.proofs.Writes.{sets_then, sets_whole}
 
 -- ---- the bytes
@@ -23,22 +24,18 @@ length-segment h =
     length-append (octets 4 h.crc32) (fields h.lsn.bits h.max_stable_lsn.bits)
     ∙ omega (arith, length-octets 4 h.crc32, length_fields h.lsn.bits h.max_stable_lsn.bits)
 
-pub sums-fields : (l m n : List ℕ) (lsn mark r : ℕ) → length l ≡ 16
-    → m ≡ sets l 0 (octets 8 (masked lsn)) → n ≡ sets m 8 (octets 8 (masked mark)) → r ≡ crc32 n → r ≡ crc32 (fields lsn mark)
-sums-fields l m n lsn mark r h p q e =
-    let a = octets 8 (masked lsn) in
-    let b = octets 8 (masked mark) in
-    let eight = length-octets 8 (masked lsn) in
-    e ∙ ap crc32 (sets_then l m n 0 8 a b p (omega arith) q ∙ sets_whole l (fields lsn mark) (length_fields lsn mark ∙ sym h))
+-- the fields over a whole buffer, in the order of the header
+pub put_fields : (l m n xs ys : List ℕ) (lsn mark a b end : ℕ) → length l ≡ 16 → a ≡ masked lsn → b ≡ masked mark
+    → xs ≡ to_le_bytes w64 a → ys ≡ to_le_bytes w64 b → m ≡ sets l 0 xs → end ≡ 0 + length xs → n ≡ sets m end ys → n ≡ fields lsn mark
+put_fields l m n xs ys lsn mark a b end h p q e f r t u =
+    let ex : xs ≡ octets 8 (masked lsn) = le_octets_8 a xs e ∙ ap (octets 8) p in
+    let ey : ys ≡ octets 8 (masked mark) = le_octets_8 b ys f ∙ ap (octets 8) q in
+    sets_then l m n 0 end xs ys r t u ∙ ap₂ (λ x y. sets l 0 (x ++ y)) ex ey ∙ sets_whole l (fields lsn mark) (length_fields lsn mark ∙ sym h)
 
-pub put-segment : (h : SegmentHeader) (l m1 m2 m3 : List ℕ) (at : ℕ)
-    → m1 ≡ sets l at (octets 4 h.crc32) → m2 ≡ sets m1 (at + 4) (octets 8 (masked h.lsn.bits))
-    → m3 ≡ sets m2 (at + 12) (octets 8 (masked h.max_stable_lsn.bits)) → m3 ≡ sets l at (segment_header h)
-put-segment h l m1 m2 m3 at p q r =
-    let a = octets 8 (masked h.lsn.bits) in
-    let b = octets 8 (masked h.max_stable_lsn.bits) in
-    sets_then l m1 m3 at (at + 4) (octets 4 h.crc32) (a ++ b) p (omega (arith, length-octets 4 h.crc32))
-    (sets_then m1 m2 m3 (at + 4) (at + 12) a b q (omega (arith, length-octets 8 (masked h.lsn.bits))) r)
+pub put-segment : (h : SegmentHeader) (l m1 m2 xs ys : List ℕ) (end : ℕ) → length l ≡ 20 → xs ≡ to_le_bytes w32 h.crc32
+    → ys ≡ fields h.lsn.bits h.max_stable_lsn.bits → m1 ≡ sets l 0 xs → end ≡ 0 + length xs → m2 ≡ sets m1 end ys → m2 ≡ segment_header h
+put-segment h l m1 m2 xs ys end n e f p q r =
+    sets_then l m1 m2 0 end xs ys p q r ∙ ap₂ (λ x y. sets l 0 (x ++ y)) (le_octets_4 h.crc32 xs e) f ∙ sets_whole l (segment_header h) (length-segment h ∙ sym n)
 
 -- ---- which headers check
 pub checks_header : (h : SegmentHeader) → h.crc32 < 2 ^ 32

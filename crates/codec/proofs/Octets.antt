@@ -1,60 +1,61 @@
 -- Fields of a fixed number of bytes. Assumes nothing.
-use Rattle.std.proofs.Common.{⊎_elim, sym, ap, ap₂, ◌∙◌, subst, arith, pow_mono, length-take, get_or-drop}
-use Rattle.std.specs.Prelude.{◌≡◌, ℕ, zero, suc, ◌+◌, ◌-◌, ◌*◌, ◌/◌, ◌%◌, ◌^◌, ◌<◌, ◌≤◌, List, [], ◌∷◌, length, take, drop, Some, bit_and, nat_le, slice_index, slice_index_or, slice_set, refl}
-use Rattle.std.proofs.lemmas.Nat.{and_mask}
-use Rattle.std.proofs.lemmas.List.Edits.{sets}
-use Rattle.std.proofs.lemmas.List.{drop_more, drop_all, get_or-take, get_or_past, length-take-le, take-take}
-use Rattle.std.proofs.lemmas.Bool.{cond-true, cond_both, cases_lt, le-leb, leb-true}
+use Rattle.std.proofs.Common.{⊎_elim, sym, ap, ap₂, ◌∙◌, subst, arith, pow-suc, suc-add, get_or, map, length-append, length-drop, length-take, get_or-drop}
+use Rattle.std.specs.Prelude.{◌≡◌, ℕ, zero, suc, ◌+◌, ◌-◌, ◌*◌, ◌/◌, ◌%◌, ◌^◌, ◌<◌, ◌≤◌, List, [], ◌∷◌, ◌++◌, length, take, drop, replicate, Some, nat_le, slice_index, refl}
+use Rattle.std.specs.Int.{byte_at, bytes_low_first, from_le_bytes, to_le_bytes, w32, w64}
+use Rattle.std.specs.List.{range_with_len}
+use Rattle.std.proofs.Math.Nat.{div-one, div-div-eq-div-mul}
+use Rattle.std.proofs.Math.Seq.{drop-nil}
+use Rattle.std.proofs.lemmas.List.{get_or-take, get_or_past, length-replicate}
+use Rattle.std.proofs.lemmas.List.FromFn.{fill_by_all}
+use Rattle.std.proofs.lemmas.Bool.{cond_both, cases_lt, leb-true}
 use Rattle.codec.specs.Laws.{bits-suc}
 use Rattle.codec.specs.Numbers.{Bytes, little, octets, field}
 
-pub bits-le : (k : ℕ) → k ≤ 8 → 2 ^ (8 * k) ≤ 2 ^ 64
-bits-le k h = let p : 8 * k ≤ 64 = omega arith in pow_mono p
+-- ---- eight bytes at once
+octets_8 : (s : List ℕ) → length s ≡ 8 → s ≡ map (λ i. get_or s i 0) (range_with_len 0 8)
+octets_8 s h = fill_by_all (λ i. get_or s i 0) s 8 0 h (λ k l. refl)
 
--- ---- reading from the top down
-pub down_none : (k : ℕ) (xs : List ℕ) → 0 ≡ little (drop k (take k xs))
+little_8 : (s : List ℕ) → length s ≡ 8 → from_le_bytes w64 s ≡ little s
 unfolding little
-down_none k xs = ap little (sym (drop_all k (take k xs) (simp length-take (omega arith))))
+little_8 s h = omega (arith, ap little (octets_8 s h))
 
-pub down_bound : (k i v b : ℕ) → 0 < i → i ≤ k → v < 2 ^ (8 * (k - i)) → b < 256 → v * 256 + b < 2 ^ (8 * (k - (i - 1)))
-down_bound k i v b p q h l =
-    let e : k - (i - 1) ≡ suc (k - i) = omega arith in
-    subst (λ n. v * 256 + b < 2 ^ (8 * n)) (sym e) (omega (arith, bits-suc (k - i)))
-
-pub down_fits : (k i v b : ℕ) → 0 < i → i ≤ k → k ≤ 8 → v < 2 ^ (8 * (k - i)) → b < 256 → v * 256 + b < 2 ^ 64
-down_fits k i v b p q f h l = omega (arith, down_bound k i v b p q h l, bits-le (k - (i - 1)) (omega arith))
-
-pub down_more : (xs : List ℕ) (k i v b : ℕ) → 0 < i → i ≤ k → k ≤ length xs → v ≡ little (drop i (take k xs)) → b ≡ slice_index xs (i - 1) → v * 256 + b ≡ little (drop (i - 1) (take k xs))
+little-append-zeros : (xs : List ℕ) (k n : ℕ) → little (xs ++ drop n (replicate k 0)) ≡ little xs
 unfolding little
-down_more xs k i v b p q r e f =
-    let len = length-take-le k xs r in
-    let back : i - 1 + 1 ≡ i = omega arith in
-    let at : slice_index_or (take k xs) (i - 1) 0 ≡ b = get_or-take k xs (i - 1) 0 (omega arith) ∙ sym f in
-    let step : drop (i - 1) (take k xs) ≡ b ∷ drop i (take k xs) =
-    drop_more (take k xs) (i - 1) 0 (omega arith) ∙ ap₂ (λ y n. y ∷ drop n (take k xs)) at back
-    in
-    omega (arith, ap little step)
+little-append-zeros [] zero n = ap little (drop-nil n)
+little-append-zeros [] (suc k) zero = omega (arith, little-append-zeros [] k zero)
+little-append-zeros [] (suc k) (suc n) = little-append-zeros [] k n
+little-append-zeros (x ∷ xs) k n = ap (λ m. x + 256 * m) (little-append-zeros xs k n)
 
--- ---- writing upward: what is left to write
-pub up_more : (l : List ℕ) (at i k n m : ℕ) → i < k → m ≡ bit_and n 255 → sets l (at + i) (octets (k - i) n) ≡ sets (slice_set l (at + i) m) (at + (i + 1)) (octets (k - (i + 1)) (n / 256))
+-- at most eight, with zeros behind them
+pub from_le : (bs cs : List ℕ) (r : ℕ) → length bs ≤ 8 → cs ≡ bs → r ≡ from_le_bytes w64 (cs ++ drop (length bs) (replicate 8 0)) → r ≡ little bs
+from_le bs cs r h e p =
+    let whole : length (bs ++ drop (length bs) (replicate 8 0)) ≡ 8 = simp (length-append, length-drop) (omega (arith, length-replicate {A = ℕ})) in
+    p ∙ ap (λ l. from_le_bytes w64 (l ++ drop (length bs) (replicate 8 0))) e ∙ little_8 _ whole ∙ little-append-zeros bs 8 (length bs)
+
+-- the bytes that `to_le_bytes` gives
+low_first : (i k n : ℕ) → bytes_low_first i k n ≡ octets k (n / 256 ^ i)
 unfolding octets
-up_more l at i k n m h e =
-    let s : k - i ≡ suc (k - (i + 1)) = omega arith in
-    let t : suc (at + i) ≡ at + (i + 1) = omega arith in
-    ap (λ j. sets l (at + i) (octets j n)) s
-    ∙ ap₂ (λ x j. sets (slice_set l (at + i) x) j (octets (k - (i + 1)) (n / 256))) (sym (and_mask n 8) ∙ sym e) t
+low_first i zero n = refl
+low_first zero (suc k) n = ap₂ (λ x l. x ∷ l) (ap (λ m. m % 256) (sym (div-one n))) (low_first 1 k n ∙ ap (λ m. octets k (m / 256)) (sym (div-one n)))
+low_first (suc i) (suc k) n =
+    ap (λ l. n / 256 ^ suc i % 256 ∷ l)
+    (low_first (suc (suc i)) k n ∙ ap (octets k) (ap (λ m. n / m) (pow-suc 256 (suc i)) ∙ sym (div-div-eq-div-mul n (256 ^ suc i) 256)))
 
-pub up_none : (l : List ℕ) (at k n : ℕ) → sets l (at + 0) (octets (k - 0) n) ≡ sets l at (octets k n)
-up_none l at k n = ap₂ (λ a j. sets l a (octets j n)) (omega arith) (omega arith)
+take-low_first : (k m i n : ℕ) → take k (bytes_low_first i (k + m) n) ≡ bytes_low_first i k n
+take-low_first zero m i n = refl
+take-low_first (suc k) m i n =
+    ap (λ j. take (suc k) (bytes_low_first i j n)) (suc-add k m) ∙ ap (λ l. byte_at i n ∷ l) (take-low_first k m (suc i) n)
 
-pub up_all : (l : List ℕ) (at i k n : ℕ) → k ≤ i → sets l (at + i) (octets (k - i) n) ≡ l
-unfolding octets
-up_all l at i k n h = let z : k - i ≡ 0 = omega arith in ap (λ j. sets l (at + i) (octets j n)) z
+pub le_octets_4 : (n : ℕ) (bs : List ℕ) → bs ≡ to_le_bytes w32 n → bs ≡ octets 4 n
+le_octets_4 n bs e = e ∙ low_first 0 4 n ∙ ap (octets 4) (div-one n)
 
-pub field_is : (k r : ℕ) (buf front rest : List ℕ) → k ≤ length buf → front ≡ take k buf → rest ≡ drop k buf → r ≡ little (take k front) → Some (r, rest) ≡ field k buf
-unfolding field
-field_is k r buf front rest h p q e =
-    ap₂ (λ m l. Some (m, l)) (e ∙ ap (λ l. little (take k l)) p ∙ ap little (take-take k k buf (omega arith))) q ∙ sym (cond-true _ _ _ (le-leb k (length buf) h))
+pub le_octets_8 : (n : ℕ) (bs : List ℕ) → bs ≡ to_le_bytes w64 n → bs ≡ octets 8 n
+le_octets_8 n bs e = e ∙ low_first 0 8 n ∙ ap (octets 8) (div-one n)
+
+pub take-le_octets : (k n : ℕ) (bs : List ℕ) → k ≤ 8 → bs ≡ to_le_bytes w64 n → take k bs ≡ octets k n
+take-le_octets k n bs h e =
+    let whole : k + (8 - k) ≡ 8 = omega arith in
+    ap (take k) (e ∙ ap (λ j. bytes_low_first 0 j n) (sym whole)) ∙ take-low_first k (8 - k) 0 n ∙ low_first 0 k n ∙ ap (octets k) (div-one n)
 
 pub little-lt : (bs : List ℕ) → ((i : ℕ) → slice_index bs i < 256) → little bs < 2 ^ (8 * length bs)
 unfolding little

@@ -4,12 +4,12 @@ ghost use Rattle.std.proofs.lemmas.List.Edits.{sets};
 ghost use Rattle.codec.specs.Messages.{message_of, message_sum, read_message_header, written};
 ghost use Rattle.codec.specs.Serial.{placed};
 
-use crate::little::{has_room, put_bytes};
+use crate::little::{check_room, put_bytes};
 use crate::{CodecError, MAX_MSG_HEADER_LEN, MessageHeader, PageId};
 use checksum::{checksum, update};
 use layout::MessageKind;
 
-#[derive(Clone, Copy)]
+#[derive(Clone, Copy, PartialEq, Eq, Debug)]
 pub struct Message<'a> {
     pub kind: MessageKind,
     // The LSN of its segment, divided by the segment size.
@@ -22,11 +22,7 @@ pub struct Message<'a> {
 fn past_checksum(header: &[u8]) -> &[u8]
     ensures { result.now ≡ drop 4 header.now }
 {
-    if header.len() < 4 {
-        return &[];
-    }
-    let (_, behind) = header.split_at(4);
-    behind
+    header.get(4..).unwrap_or(&[])
 }
 
 // The checksum that a message's header stores: over the body, then over the header past its first four bytes.
@@ -52,7 +48,6 @@ impl Message<'_> {
             pid: self.pid,
         };
         let mut buf = [0u8; MAX_MSG_HEADER_LEN];
-        let _size = unsummed.size();
         let end = unsummed.put(&mut buf, 0);
         let crc32 = calculate_message_crc32(&buf[0..end], self.body);
         MessageHeader { crc32, ..unsummed }
@@ -64,15 +59,8 @@ impl Message<'_> {
         ensures after { buf.new ≡ (if is_ok result then sets buf.old at (written self.now) else buf.old) }
     {
         let header = self.header();
-        let size = header.size();
-        if !has_room(buf.len(), at, size) {
-            return Err(CodecError::TooShort);
-        }
-        if !has_room(buf.len(), at + size, self.body.len()) {
-            return Err(CodecError::TooShort);
-        }
+        check_room(buf.len(), at, header.size() + self.body.len())?;
         let end = header.put(buf, at);
-        put_bytes(buf, end, self.body);
-        Ok(end + self.body.len())
+        Ok(put_bytes(buf, end, self.body))
     }
 }

@@ -4,7 +4,7 @@ ghost use Rattle.std.proofs.lemmas.List.Edits.{sets};
 ghost use Rattle.codec.specs.Messages.{message_header, MessageFits, read_message_header};
 ghost use Rattle.codec.specs.Laws.{header_back};
 
-use crate::little::{has_room, put_octets};
+use crate::little::{check_room, put_bytes};
 use crate::number::{form_len, get_byte, get_number, put_number};
 use crate::{CodecError, Serialize};
 use layout::MessageKind;
@@ -14,10 +14,9 @@ pub type PageId = u64;
 
 // Checksum (4 bytes), kind (1), then three numbers of one to nine bytes each: 8 bytes at least, and at most
 // this many.
-
 pub const MAX_MSG_HEADER_LEN: usize = 32;
 
-#[derive(Clone, Copy)]
+#[derive(Clone, Copy, PartialEq, Eq, Debug)]
 pub struct MessageHeader {
     // As stored: the complement of the checksum of body and header.
     pub crc32: u32,
@@ -31,6 +30,7 @@ pub struct MessageHeader {
 
 impl MessageHeader {
     // How many bytes the header takes.
+    #[tactic(auto, using(crate::proofs::Bodies::length_header))]
     pub(crate) fn size(self) -> usize
         ensures size { result ≡ length (message_header self) }
         ensures bounds { (8 ≤ result) × (result ≤ 32) }
@@ -45,9 +45,9 @@ impl MessageHeader {
         ensures after { buf.new ≡ sets buf.old at (message_header self) }
         ensures end { result ≡ at + length (message_header self) }
     {
-        put_octets(buf, at, 4, u64::from(self.crc32));
-        buf[at + 4] = u8::from(self.kind);
-        let at = put_number(buf, at + 5, self.len);
+        let at = put_bytes(buf, at, &self.crc32.to_le_bytes());
+        let at = put_bytes(buf, at, &[u8::from(self.kind)]);
+        let at = put_number(buf, at, self.len);
         let at = put_number(buf, at, self.segment_number);
         put_number(buf, at, self.pid)
     }
@@ -66,15 +66,12 @@ impl Serialize for MessageHeader {
         ensures size { result ≡ length (message_header self.now) }
         ensures bounds { (8 ≤ result) × (result ≤ 32) }
     {
-        (*self).size()
+        self.size()
     }
 
     fn serialize_into(&self, buf: &mut [u8], at: usize) -> Result<usize, CodecError> {
-        let header = *self;
-        if !has_room(buf.len(), at, header.size()) {
-            return Err(CodecError::TooShort);
-        }
-        Ok(header.put(buf, at))
+        check_room(buf.len(), at, self.size())?;
+        Ok(self.put(buf, at))
     }
 
     fn deserialize(buf: &[u8]) -> Result<(MessageHeader, &[u8]), CodecError> {
@@ -83,11 +80,10 @@ impl Serialize for MessageHeader {
         let (len, rest) = get_number(rest)?;
         let (segment_number, rest) = get_number(rest)?;
         let (pid, rest) = get_number(rest)?;
-        let kind = MessageKind::from(kind);
         Ok((
             MessageHeader {
                 crc32,
-                kind,
+                kind: MessageKind::from(kind),
                 len,
                 segment_number,
                 pid,

@@ -6,7 +6,7 @@ ghost use Rattle.std.specs.Result.{result_ok};
 ghost use Rattle.codec.specs.Numbers.{Bytes, number, second, shortest, width, Examples};
 
 use crate::CodecError;
-use crate::little::{get_field, put_octets};
+use crate::little::{get_field, put_bytes};
 
 // The largest numbers in one, two and three bytes.
 const ONE_BYTE_MAX: u64 = 240;
@@ -28,26 +28,26 @@ const THREE_BYTES: u8 = 249;
 const LONG_BASE: u8 = 247;
 
 // The first byte, and the bytes past it.
+#[tactic(auto, unfolding(crate::specs::Numbers::second))]
 pub(crate) fn get_byte(buf: &[u8]) -> Result<(u8, &[u8]), CodecError>
     ensures { option_map (λ p. (p.0, p.1.now)) (result_ok result) ≡ second 0 buf.now }
 {
-    match buf.split_first() {
-        Some((first, rest)) => Ok((*first, rest)),
-        None => Err(CodecError::TooShort),
-    }
+    let (first, rest) = buf.split_first().ok_or(CodecError::TooShort)?;
+    Ok((*first, rest))
 }
 
 // The number at the front, and the bytes past it.
+#[tactic(auto, unfolding(crate::specs::Numbers::number, crate::specs::Numbers::second))]
 pub(crate) fn get_number(buf: &[u8]) -> Result<(u64, &[u8]), CodecError>
     ensures { option_map (λ p. (p.0, p.1.now)) (result_ok result) ≡ number buf.now }
 {
     let (first, rest) = get_byte(buf)?;
     match first {
-        f if f <= ONE_BYTE_LAST => Ok((u64::from(f), rest)),
-        f if f <= TWO_BYTES_LAST => {
+        0..=ONE_BYTE_LAST => Ok((u64::from(first), rest)),
+        TWO_BYTES_FIRST..=TWO_BYTES_LAST => {
             let (b, rest) = get_byte(rest)?;
             Ok((
-                ONE_BYTE_MAX + 256 * u64::from(f - TWO_BYTES_FIRST) + u64::from(b),
+                ONE_BYTE_MAX + 256 * u64::from(first - TWO_BYTES_FIRST) + u64::from(b),
                 rest,
             ))
         }
@@ -56,7 +56,7 @@ pub(crate) fn get_number(buf: &[u8]) -> Result<(u64, &[u8]), CodecError>
             let (b, rest) = get_byte(rest)?;
             Ok((TWO_BYTES_MAX + 1 + 256 * u64::from(a) + u64::from(b), rest))
         }
-        f => get_field(rest, usize::from(f - LONG_BASE)),
+        _ => get_field(rest, usize::from(first - LONG_BASE)),
     }
 }
 
@@ -76,18 +76,16 @@ fn long_len(n: u64) -> usize
 }
 
 // How many bytes the form takes that is written.
+#[tactic(auto, using(crate::proofs::Forms::length_long), unfolding(crate::specs::Numbers::shortest))]
 pub(crate) fn form_len(n: u64) -> usize
     ensures value { result ≡ length (shortest n) }
     ensures bounds { (1 ≤ result) × (result ≤ 9) }
 {
-    if n <= ONE_BYTE_MAX {
-        1
-    } else if n <= TWO_BYTES_MAX {
-        2
-    } else if n <= THREE_BYTES_MAX {
-        3
-    } else {
-        1 + long_len(n)
+    match n {
+        0..=ONE_BYTE_MAX => 1,
+        ..=TWO_BYTES_MAX => 2,
+        ..=THREE_BYTES_MAX => 3,
+        _ => 1 + long_len(n),
     }
 }
 
@@ -101,29 +99,28 @@ pub fn number_len(n: u64) -> usize
 }
 
 // Writes `n` at `at` in its shortest form, and says where it ends.
+#[tactic(auto, unfolding(crate::specs::Numbers::shortest))]
 pub(crate) fn put_number(buf: &mut [u8], at: usize, n: u64) -> usize
     requires { at + length (shortest n) ≤ length buf.old }
     ensures after { buf.new ≡ sets buf.old at (shortest n) }
     ensures end { result ≡ at + length (shortest n) }
 {
-    if n <= ONE_BYTE_MAX {
-        buf[at] = n as u8;
-        at + 1
-    } else if n <= TWO_BYTES_MAX {
-        let over = n - ONE_BYTE_MAX;
-        buf[at] = TWO_BYTES_FIRST + (over / 256) as u8;
-        buf[at + 1] = (over % 256) as u8;
-        at + 2
-    } else if n <= THREE_BYTES_MAX {
-        let over = n - TWO_BYTES_MAX - 1;
-        buf[at] = THREE_BYTES;
-        buf[at + 1] = (over / 256) as u8;
-        buf[at + 2] = (over % 256) as u8;
-        at + 3
-    } else {
-        let k = long_len(n);
-        buf[at] = LONG_BASE + k as u8;
-        put_octets(buf, at + 1, k, n);
-        at + 1 + k
+    match n {
+        0..=ONE_BYTE_MAX => put_bytes(buf, at, &[n as u8]),
+        ..=TWO_BYTES_MAX => {
+            let over = n - ONE_BYTE_MAX;
+            let (high, low) = (over / 256, over % 256);
+            put_bytes(buf, at, &[TWO_BYTES_FIRST + high as u8, low as u8])
+        }
+        ..=THREE_BYTES_MAX => {
+            let over = n - TWO_BYTES_MAX - 1;
+            let (high, low) = (over / 256, over % 256);
+            put_bytes(buf, at, &[THREE_BYTES, high as u8, low as u8])
+        }
+        _ => {
+            let k = long_len(n);
+            let at = put_bytes(buf, at, &[LONG_BASE + k as u8]);
+            put_bytes(buf, at, &n.to_le_bytes()[..k])
+        }
     }
 }

@@ -1,11 +1,10 @@
 // The header of a segment: checksum (4 bytes), LSN (8), stable mark (8).
 ghost use Rattle.std.specs.Prelude.{◌≡◌, ℕ, true, false, List, replicate, Some};
-ghost use Rattle.checksum.specs.Crc.{crc32};
 ghost use Rattle.codec.specs.Numbers.{Bytes};
-ghost use Rattle.codec.specs.Segments.{fields, segment_header, SegmentFits, read_segment_header, segment_of, checks};
+ghost use Rattle.codec.specs.Segments.{masked, fields, segment_header, SegmentFits, read_segment_header, segment_of, checks};
 ghost use Rattle.codec.specs.Laws.{segment_back};
 
-use crate::little::{get_field, has_room, put_octets};
+use crate::little::{put_bytes, write_bytes};
 use crate::{CodecError, Serialize, Word};
 use checksum::checksum;
 use layout::SEG_HEADER_LEN;
@@ -13,7 +12,7 @@ use layout::SEG_HEADER_LEN;
 // Both fields are stored under this mask, so that a header of zeros means no LSN in use.
 const MASK: u64 = 0x7FFF_FFFF_FFFF_FFFF;
 
-#[derive(Clone, Copy)]
+#[derive(Clone, Copy, PartialEq, Eq, Debug)]
 pub struct SegmentHeader {
     // As stored: the complement of the checksum of the fields.
     pub crc32: u32,
@@ -21,14 +20,23 @@ pub struct SegmentHeader {
     pub max_stable_lsn: Word,
 }
 
-// The checksum of a header's 16 bytes behind its own.
-fn sum_fields(lsn: u64, mark: u64) -> u32
-    ensures { result ≡ crc32 (fields lsn mark) }
+// A field as stored, and back again.
+fn masked(field: Word) -> Word
+    ensures { result.bits ≡ masked field.bits }
 {
-    let mut buf = [0u8; 16];
-    put_octets(&mut buf, 0, 8, lsn ^ MASK);
-    put_octets(&mut buf, 8, 8, mark ^ MASK);
-    checksum(&buf)
+    Word {
+        bits: field.bits ^ MASK,
+    }
+}
+
+// What a header holds behind its checksum.
+fn fields(lsn: Word, mark: Word) -> [u8; 16]
+    ensures { result ≡ fields lsn.bits mark.bits }
+{
+    let mut bytes = [0u8; 16];
+    let end = put_bytes(&mut bytes, 0, &masked(lsn).bits.to_le_bytes());
+    put_bytes(&mut bytes, end, &masked(mark).bits.to_le_bytes());
+    bytes
 }
 
 impl SegmentHeader {
@@ -37,7 +45,7 @@ impl SegmentHeader {
         ensures value { result ≡ segment_of lsn.bits max_stable_lsn.bits }
         ensures checks { checks (segment_header result) ≡ true }
     {
-        let crc32 = !sum_fields(lsn.bits, max_stable_lsn.bits);
+        let crc32 = !checksum(&fields(lsn, max_stable_lsn));
         SegmentHeader {
             crc32,
             lsn,
@@ -53,7 +61,18 @@ impl SegmentHeader {
         ensures zeros { checks (replicate 20 0) ≡ false }
     {
         let stored = !self.crc32;
-        stored == sum_fields(self.lsn.bits, self.max_stable_lsn.bits)
+        stored == checksum(&fields(self.lsn, self.max_stable_lsn))
+    }
+
+    // The stored checksum, then the fields.
+    fn to_bytes(self) -> [u8; SEG_HEADER_LEN]
+        ensures value { result ≡ segment_header self }
+        ensures fits { SegmentFits self }
+    {
+        let mut bytes = [0u8; SEG_HEADER_LEN];
+        let end = put_bytes(&mut bytes, 0, &self.crc32.to_le_bytes());
+        put_bytes(&mut bytes, end, &fields(self.lsn, self.max_stable_lsn));
+        bytes
     }
 }
 
@@ -66,34 +85,24 @@ impl Serialize for SegmentHeader {
 
     ghost back = { segment_back };
 
+    #[tactic(auto, unfolding(crate::specs::Numbers::octets))]
     fn serialized_size(&self) -> usize {
         SEG_HEADER_LEN
     }
 
     fn serialize_into(&self, buf: &mut [u8], at: usize) -> Result<usize, CodecError> {
-        let crc32 = u64::from(self.crc32);
-        let lsn = self.lsn.bits ^ MASK;
-        let mark = self.max_stable_lsn.bits ^ MASK;
-        if !has_room(buf.len(), at, SEG_HEADER_LEN) {
-            return Err(CodecError::TooShort);
-        }
-        put_octets(buf, at, 4, crc32);
-        put_octets(buf, at + 4, 8, lsn);
-        put_octets(buf, at + 12, 8, mark);
-        Ok(at + SEG_HEADER_LEN)
+        write_bytes(buf, at, &self.to_bytes())
     }
 
     fn deserialize(buf: &[u8]) -> Result<(SegmentHeader, &[u8]), CodecError> {
         let (crc32, rest) = u32::deserialize(buf)?;
-        let (lsn, rest) = get_field(rest, 8)?;
-        let (mark, rest) = get_field(rest, 8)?;
-        let lsn = Word { bits: lsn ^ MASK };
-        let max_stable_lsn = Word { bits: mark ^ MASK };
+        let (lsn, rest) = Word::deserialize(rest)?;
+        let (mark, rest) = Word::deserialize(rest)?;
         Ok((
             SegmentHeader {
                 crc32,
-                lsn,
-                max_stable_lsn,
+                lsn: masked(lsn),
+                max_stable_lsn: masked(mark),
             },
             rest,
         ))

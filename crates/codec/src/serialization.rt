@@ -9,7 +9,7 @@ ghost use Rattle.codec.specs.declared.error.CodecError.TheVariants.{TooShort};
 ghost use Rattle.codec.specs.Laws.{second_back, field_back, number_back};
 
 use crate::CodecError;
-use crate::little::{get_field, has_room, put_octets};
+use crate::little::{check_room, get_field, write_bytes};
 use crate::number::{form_len, get_byte, get_number, put_number};
 
 pub trait Serialize: Sized {
@@ -53,12 +53,7 @@ impl Serialize for u8 {
     }
 
     fn serialize_into(&self, buf: &mut [u8], at: usize) -> Result<usize, CodecError> {
-        let b = *self;
-        if !has_room(buf.len(), at, 1) {
-            return Err(CodecError::TooShort);
-        }
-        buf[at] = b;
-        Ok(at + 1)
+        write_bytes(buf, at, &[*self])
     }
 
     fn deserialize(buf: &[u8]) -> Result<(u8, &[u8]), CodecError> {
@@ -76,17 +71,14 @@ impl Serialize for u32 {
 
     ghost back = { field_back 4 };
 
+    #[tactic(auto, unfolding(crate::specs::Numbers::octets))]
     fn serialized_size(&self) -> usize {
         4
     }
 
+    #[tactic(auto, using(crate::proofs::Octets::le_octets_4))]
     fn serialize_into(&self, buf: &mut [u8], at: usize) -> Result<usize, CodecError> {
-        let n = u64::from(*self);
-        if !has_room(buf.len(), at, 4) {
-            return Err(CodecError::TooShort);
-        }
-        put_octets(buf, at, 4, n);
-        Ok(at + 4)
+        write_bytes(buf, at, &self.to_le_bytes())
     }
 
     fn deserialize(buf: &[u8]) -> Result<(u32, &[u8]), CodecError> {
@@ -110,9 +102,7 @@ impl Serialize for u64 {
     }
 
     fn serialize_into(&self, buf: &mut [u8], at: usize) -> Result<usize, CodecError> {
-        if !has_room(buf.len(), at, form_len(*self)) {
-            return Err(CodecError::TooShort);
-        }
+        check_room(buf.len(), at, form_len(*self))?;
         Ok(put_number(buf, at, *self))
     }
 

@@ -1,12 +1,14 @@
 // Eight-byte fields: an LSN, a stable mark, a manifest's LSN, a blob pointer.
 ghost use Rattle.std.specs.Prelude.{◌≡◌, ◌^◌, ◌<◌, if◌then◌else◌, Some, None};
 ghost use Rattle.std.proofs.Common.{to_z};
+ghost use Rattle.std.specs.Fmt.{signed_decimal, styled_signed_decimal};
 ghost use Rattle.std.specs.Int.{w64};
 ghost use Rattle.codec.specs.Fields.{below, eight, read_word};
 ghost use Rattle.codec.specs.Laws.{word_back};
 
-use crate::little::{get_field, has_room, put_octets};
+use crate::little::{get_field, write_bytes};
 use crate::{CodecError, Serialize};
+use std::fmt::{self, Display, Formatter, Write};
 
 // A place in the log's own count of bytes.
 pub type Lsn = u64;
@@ -37,6 +39,17 @@ impl Word {
     }
 }
 
+// The signed number.
+impl Display for Word {
+    ghost output = { λ w. Some (signed_decimal (to_z w64 w.bits)) };
+
+    ghost styled_output = { λ w style. Some (styled_signed_decimal style (to_z w64 w.bits)) };
+
+    fn fmt<W: Write>(&self, f: &mut Formatter<W>) -> fmt::Result {
+        Display::fmt(&self.signed(), f)
+    }
+}
+
 impl Serialize for Word {
     ghost bytes = { λ w. eight w.bits };
 
@@ -46,17 +59,14 @@ impl Serialize for Word {
 
     ghost back = { word_back };
 
+    #[tactic(auto, unfolding(crate::specs::Numbers::octets))]
     fn serialized_size(&self) -> usize {
         8
     }
 
+    #[tactic(auto, using(crate::proofs::Octets::le_octets_8))]
     fn serialize_into(&self, buf: &mut [u8], at: usize) -> Result<usize, CodecError> {
-        let n = self.bits;
-        if !has_room(buf.len(), at, 8) {
-            return Err(CodecError::TooShort);
-        }
-        put_octets(buf, at, 8, n);
-        Ok(at + 8)
+        write_bytes(buf, at, &self.bits.to_le_bytes())
     }
 
     fn deserialize(buf: &[u8]) -> Result<(Word, &[u8]), CodecError> {

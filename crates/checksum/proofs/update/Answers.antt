@@ -4,8 +4,8 @@ use Rattle.checksum.proofs.Octets.{absorb_more, absorb_all, joined}
 use Rattle.checksum.proofs.Sliced.{absorb-eight}
 use Rattle.checksum.proofs.update.Goals as goal
 
-pub loop-rest-preserved : goal.loop-rest-preserved
-loop-rest-preserved c = search (rules, absorb-eight)
+pub loop-word-preserved : goal.loop-word-preserved
+loop-word-preserved c = search (rules, absorb-eight)
 
 pub loop-b-preserved : goal.loop-b-preserved
 loop-b-preserved c = search (rules, absorb_more)

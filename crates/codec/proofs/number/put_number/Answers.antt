@@ -1,56 +1,22 @@
-use Rattle.std.proofs.Common.{◌<◌, arith, length-set, rules}
-use Rattle.codec.specs.Numbers.{shortest}
+use Rattle.std.proofs.Common.{length, ap, arith}
+use Rattle.codec.specs.Laws.{length-octets}
 use Rattle.codec.proofs.Forms.{length_long, put_long}
+use Rattle.codec.proofs.Octets.{take-le_octets}
 use Rattle.codec.proofs.number.put_number.Goals as goal
 
-pub bounds-buf-at : goal.bounds-buf-at
-unfolding shortest
-bounds-buf-at c = search rules
+pub put_bytes-requires-in_default : goal.put_bytes-requires-in_default
+put_bytes-requires-in_default c =
+    let k = c.long_len-k.result in
+    let bytes = take-le_octets k c.args.n c.to_le_bytes.result c.long_len-k.ensures.bound c.to_le_bytes.ensures in
+    omega (arith, ap length bytes, length-octets k c.args.n, length_long c.args.n k (omega arith) c.long_len-k.ensures.value)
 
-pub bounds-buf-at-then-n-le-TWO_BYTES_MAX : goal.bounds-buf-at-then-n-le-TWO_BYTES_MAX
-unfolding shortest
-bounds-buf-at-then-n-le-TWO_BYTES_MAX c = search rules
-
-pub bounds-buf-at-then-n-le-TWO_BYTES_MAX-2 : goal.bounds-buf-at-then-n-le-TWO_BYTES_MAX-2
-unfolding shortest
-bounds-buf-at-then-n-le-TWO_BYTES_MAX-2 c = search rules
-
-pub bounds-buf-at-then-n-le-THREE_BYTES_MAX : goal.bounds-buf-at-then-n-le-THREE_BYTES_MAX
-unfolding shortest
-bounds-buf-at-then-n-le-THREE_BYTES_MAX c = search rules
-
-pub bounds-buf-at-then-n-le-THREE_BYTES_MAX-2 : goal.bounds-buf-at-then-n-le-THREE_BYTES_MAX-2
-unfolding shortest
-bounds-buf-at-then-n-le-THREE_BYTES_MAX-2 c = search rules
-
-pub bounds-buf-at-then-n-le-THREE_BYTES_MAX-3 : goal.bounds-buf-at-then-n-le-THREE_BYTES_MAX-3
-unfolding shortest
-bounds-buf-at-then-n-le-THREE_BYTES_MAX-3 c = search rules
-
-pub bounds-buf-at-else-n-le-THREE_BYTES_MAX : goal.bounds-buf-at-else-n-le-THREE_BYTES_MAX
-unfolding shortest
-bounds-buf-at-else-n-le-THREE_BYTES_MAX c = search rules
-
-pub returns-then-n-le-ONE_BYTE_MAX : goal.returns-then-n-le-ONE_BYTE_MAX
-unfolding shortest
-returns-then-n-le-ONE_BYTE_MAX c = search rules
-
-pub returns-then-n-le-TWO_BYTES_MAX : goal.returns-then-n-le-TWO_BYTES_MAX
-unfolding shortest
-returns-then-n-le-TWO_BYTES_MAX c = search rules
-
-pub returns-then-n-le-THREE_BYTES_MAX : goal.returns-then-n-le-THREE_BYTES_MAX
-unfolding shortest
-returns-then-n-le-THREE_BYTES_MAX c = search rules
-
-pub put_octets-requires : goal.put_octets-requires
-put_octets-requires c =
-    simp length-set (omega (arith, length_long c.args.n c.long_len-k.result (omega arith) c.long_len-k.ensures.value, c.requires))
-
-pub returns-else-n-le-THREE_BYTES_MAX : goal.returns-else-n-le-THREE_BYTES_MAX
-returns-else-n-le-THREE_BYTES_MAX c =
-    let big : 67823 < c.args.n = omega arith in
+pub returns-in_default : goal.returns-in_default
+returns-in_default c =
+    let k = c.long_len-k.result in
+    let bytes = take-le_octets k c.args.n c.to_le_bytes.result c.long_len-k.ensures.bound c.to_le_bytes.ensures in
     record {
-      after = put_long c.args.buf.now c.put_octets.new.buf c.args.at c.args.n c.long_len-k.result big c.long_len-k.ensures.value c.put_octets.ensures;
-      end = omega (arith, length_long c.args.n c.long_len-k.result big c.long_len-k.ensures.value);
+      after = put_long c.args.buf.now c.put_bytes-at.new.buf c.put_bytes-in_default.new.buf c.to_le_bytes.result c.args.at c.put_bytes-at.result c.args.n k
+          (omega arith) c.long_len-k.ensures.value c.long_len-k.ensures.bound c.to_le_bytes.ensures
+          c.put_bytes-at.ensures.after c.put_bytes-at.ensures.end c.put_bytes-in_default.ensures.after;
+      end = omega (arith, ap length bytes, length-octets k c.args.n, length_long c.args.n k (omega arith) c.long_len-k.ensures.value);
     }

@@ -2,12 +2,8 @@ use Rattle.std.proofs.Common.{rules}
 use Rattle.codec.proofs.Bodies.{length-written, put_written}
 use Rattle.codec.proofs.message.Message.serialize_into.Goals as goal
 
-pub returns-then-not-has_room : goal.returns-then-not-has_room
-returns-then-not-has_room c =
-    let len = length-written c.args.self.now c.header-header.result c.header-header.ensures.value in search rules
-
-pub returns-then-not-has_room-2 : goal.returns-then-not-has_room-2
-returns-then-not-has_room-2 c =
+pub returns-in_err-check_room : goal.returns-in_err-check_room
+returns-in_err-check_room c =
     let len = length-written c.args.self.now c.header-header.result c.header-header.ensures.value in search rules
 
 pub returns : goal.returns
