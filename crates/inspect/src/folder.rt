@@ -1,5 +1,5 @@
 // A folder of blob files, read into a bank and listed.
-use anyhow::anyhow;
+use anyhow::Context;
 use blobs::{Bank, BlobFiles, BlobSource, Extent};
 use codec::Word;
 use std::fs;
@@ -29,7 +29,7 @@ fn read_files(rt: &HostRuntime, folder: &str) -> anyhow::Result<(Vec<BlobFile>, 
 
 // The blob's line; whether it is sound.
 fn print_blob(rt: &HostRuntime, bank: &Bank<'_>, pointer: u64) -> anyhow::Result<bool> {
-    let name = Word { bits: pointer }.signed();
+    let name = Word { bits: pointer };
     match bank.blob(pointer) {
         Some(note) if note.sound => {
             let kind = note.kind;
@@ -51,11 +51,9 @@ fn print_bank<'a>(
     let bank = Bank::new(bytes, extents);
     let count = extents.len();
     let mut sound = 0usize;
-    for i in 0..count {
-        if let Some(entry) = extents.get(i) {
-            if print_blob(rt, &bank, entry.key)? {
-                sound = sound.saturating_add(1);
-            }
+    for entry in extents.entries() {
+        if print_blob(rt, &bank, entry.key)? {
+            sound = sound.saturating_add(1);
         }
     }
     let rest = count.saturating_sub(sound);
@@ -74,12 +72,10 @@ pub(crate) fn list_blobs(rt: &HostRuntime, folder: &str) -> anyhow::Result<()> {
     let mut extents = SortedTable::new(entries.as_mut_slice(), blank);
     let mut shelf = BlobFiles::new(bytes.as_mut_slice());
     for file in &files {
-        if shelf
+        shelf
             .add(&mut extents, file.pointer, file.bytes.as_slice())
-            .is_err()
-        {
-            return Err(anyhow!("the blobs do not fit the bank"));
-        }
+            .ok()
+            .context("the blobs do not fit the bank")?;
     }
     print_bank(rt, shelf.bytes(), &extents)
 }

@@ -4,6 +4,7 @@ ghost use Rattle.codec.specs.Segments.{read_segment_header};
 ghost use Rattle.inspect.specs.Verdicts.{judged, judged_bytes};
 
 use codec::{SegmentHeader, Serialize};
+use std::fmt::{self, Display, Formatter, Write};
 
 #[derive(Clone, Copy)]
 pub enum Verdict {
@@ -12,6 +13,18 @@ pub enum Verdict {
     BelowZero(SegmentHeader),
     // Zeros, damage, or too few bytes.
     NoHeader,
+}
+
+impl Display for Verdict {
+    fn fmt<W: Write>(&self, f: &mut Formatter<W>) -> fmt::Result {
+        let (what, header) = match self {
+            Verdict::Used(header) => ("used", header),
+            Verdict::BelowZero(header) => ("not used: its LSN is below zero", header),
+            Verdict::NoHeader => return write!(f, "not used: its header does not check"),
+        };
+        let (lsn, mark) = (header.lsn, header.max_stable_lsn);
+        write!(f, "{what}, LSN {lsn}, stable mark {mark}")
+    }
 }
 
 fn judge_header(header: SegmentHeader) -> Verdict
