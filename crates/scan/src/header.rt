@@ -39,6 +39,7 @@ impl UsedHeader {
     }
 
     // Whether its LSN or mark cannot be.
+    #[tactic(auto, unfolding(crate::specs::Headers::odd))]
     fn is_odd(self, size: SegmentSize) -> bool
         ensures { result ≡ odd size self.lsn self.mark }
     {
@@ -46,6 +47,7 @@ impl UsedHeader {
     }
 
     // Enters the segment at `place`: refused where the header is odd, or its LSN is there already.
+    #[tactic(auto, unfolding(crate::specs::Order::unless, crate::specs::Order::added))]
     pub(crate) fn add_to(
         self,
         order: &mut SortedTable<LogOffset>,
