@@ -24,21 +24,21 @@ fn header_at<R: ReadAt>(view: &R, place: u64) -> [u8; SEG_HEADER_LEN]
 }
 
 // The header at a place; what its mark counts.
-fn visit<R: ReadAt>(
-    view: &R,
+fn visit<D: Device>(
+    device: &D,
     order: &mut SortedTable<LogOffset>,
     size: SegmentSize,
     low: Lsn,
     place: LogOffset,
 ) -> Result<Lsn, Refusal>
-    requires base { R.ReadAt.first view.now ≡ 0 }
-    requires there { inside (R.ReadAt.first view.now) (R.ReadAt.bytes view.now) place 20 ≡ true }
+    requires base { D.ReadAt.first device.now ≡ 0 }
+    requires there { inside (D.ReadAt.first device.now) (D.ReadAt.bytes device.now) place 20 ≡ true }
     requires room { length (contents order.old) < capacity order.old }
-    ensures reply { result ≡ unless (entered size low place (head_at (R.ReadAt.bytes view.now) place) (contents order.old)).fault (mark_of low (head_at (R.ReadAt.bytes view.now) place)) }
-    ensures contents { contents order.new ≡ (entered size low place (head_at (R.ReadAt.bytes view.now) place) (contents order.old)).segments }
+    ensures reply { result ≡ unless (entered size low place (head_at (D.ReadAt.bytes device.now) place) (contents order.old)).fault (mark_of low (head_at (D.ReadAt.bytes device.now) place)) }
+    ensures contents { contents order.new ≡ (entered size low place (head_at (D.ReadAt.bytes device.now) place) (contents order.old)).segments }
     ensures same { Same order.old order.new }
 {
-    let Some(header) = UsedHeader::read(&header_at(view, place), low) else {
+    let Some(header) = UsedHeader::read(&header_at(device, place), low) else {
         return Ok(0);
     };
     header.add_to(order, size, place)?;
