@@ -20,6 +20,7 @@ pub struct BlobFiles<'a> {
 
 impl<'a> BlobFiles<'a> {
     // No file yet; the buffer is left as it is.
+    #[tactic(auto, using(crate::proofs::Adds::holds_none))]
     pub fn new(bytes: &'a mut [u8]) -> BlobFiles<'a>
         ensures bytes { result.bytes.now ≡ bytes.old }
         ensures used { result.used ≡ 0 }

@@ -7,6 +7,7 @@ use checksum::checksum;
 use codec::Serialize;
 
 // What a blob file says of its blob.
+#[tactic(auto, unfolding(crate::specs::Files::note_of))]
 pub fn read_blob(file: &[u8]) -> Note
     ensures { result ≡ note_of file.now }
 {

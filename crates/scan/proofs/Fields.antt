@@ -1,5 +1,6 @@
 -- The fields of twenty bytes that are read as a header. Assumes nothing.
-use Rattle.std.proofs.Common.{◌≡◌, ℕ, ◌<◌, Bool, true, false, cond, not, ◌&&◌, leb, List, length, take, drop, Some, None, Option, sym, refl, ap, ◌∙◌, arith, length-drop}
+use Rattle.std.proofs.Common.{◌≡◌, ℕ, ◌<◌, Bool, true, false, cond, not, ◌&&◌, leb, List, length, take, drop, Some, None, Option, sym, refl, ap, ◌∙◌, arith, length-drop, Bor}
+use Rattle.std.specs.Option.{option_map, unwrap_or}
 use Rattle.std.proofs.lemmas.List.{drop-drop}
 use Rattle.std.proofs.lemmas.Bool.{cond-true, cond-false, le-leb}
 use Rattle.std.proofs.lemmas.Bool.Decides.{nat_tests}
@@ -8,6 +9,7 @@ use Rattle.codec.specs.Numbers.{little, field}
 use Rattle.codec.specs.Segments.{read_segment_header, checks}
 use Rattle.codec.specs.declared.segment.SegmentHeader.{SegmentHeader}
 use Rattle.codec.proofs.Octets.{some_is}
+use Rattle.scan.specs.declared.header.UsedHeader.{UsedHeader}
 use Rattle.scan.specs.Headers.{head_lsn, head_mark, used, weight}
 use Rattle.scan.specs.Offers.{offered}
 
@@ -44,6 +46,19 @@ lsn_some n l r e k = go (below n) (sym e ∙ k)
     go true x = absurd (let z : ◌≡◌ {A = ℕ} 0 1 = cc in omega arith)
     go false x = (refl, cc)
 
+-- what a mark counts, as the header's reader takes it
+pub weighed : (n w : ℕ) (o : Option ℕ) → o ≡ cond (below n) None (Some n) → w ≡ unwrap_or o 0 → w ≡ weight n
+unfolding weight
+weighed n w o e u = u ∙ ap (λ x. unwrap_or x 0) e ∙ go (below n)
+  where
+    go : (b : Bool) → unwrap_or (cond b None (Some n)) 0 ≡ cond b 0 n
+    go true = refl
+    go false = refl
+
+-- a value read and the bytes behind it, seen through the reference
+abbrev pub read_now : Option (SegmentHeader × Bor (List ℕ)) → Option (SegmentHeader × List ℕ)
+read_now = option_map (λ (p : SegmentHeader × Bor (List ℕ)). (p.0, p.1.now))
+
 module _ (low : ℕ) (bs : List ℕ) (long : length bs ≡ 20) where
   pub read_is : (h : SegmentHeader) (rest : List ℕ) → Some (h, rest) ≡ read_segment_header bs → h ≡ header_in bs
   read_is h rest e = ap (λ (p : SegmentHeader × List ℕ). p.0) (some_is (h, rest) (header_in bs, drop 8 (drop 8 (drop 4 bs))) (e ∙ header_read bs long))
@@ -66,9 +81,9 @@ module _ (low : ℕ) (bs : List ℕ) (long : length bs ≡ 20) where
   unfolding used
   below_low l i e = unused (grind (arith, nat_tests))
 
-  pub in_use : (l w : ℕ) → checks bs ≡ true → below (head_lsn bs) ≡ false → l ≡ head_lsn bs → (l < low → ⊥) → w ≡ weight (head_mark bs) → ◌≡◌ {A = Option (ℕ × ℕ)} (Some (l, w)) (offered low bs)
+  pub in_use : (l w : ℕ) → checks bs ≡ true → below (head_lsn bs) ≡ false → l ≡ head_lsn bs → (l < low → ⊥) → w ≡ weight (head_mark bs) → Some (record { lsn = l; mark = w }) ≡ offered low bs
   unfolding used
   in_use l w k b i n v =
       let u : used low bs ≡ true = grind (arith, nat_tests) in
-      let q : ◌≡◌ {A = ℕ × ℕ} (l, w) (head_lsn bs, weight (head_mark bs)) = cc in
+      let q : ◌≡◌ {A = UsedHeader} (record { lsn = l; mark = w }) (record { lsn = head_lsn bs; mark = weight (head_mark bs) }) = cc in
       ap Some q ∙ sym (cond-true _ _ _ u)

@@ -1,39 +1,13 @@
 -- The scan, header by header. Assumes nothing.
-use Rattle.std.proofs.Common.{◌≡◌, ℕ, suc, ◌+◌, ◌*◌, ◌/◌, ◌%◌, ◌<◌, ◌≤◌, max, Bool, true, false, cond, ◌&&◌, eqb, ltb, leb, ◌⊎◌, List, [], ◌∷◌, length, is_some, Some, None, Ok, Option, sym, refl, ap, ◌∙◌, subst, ap₂, inl, inr, ⊎_elim, mul-le-mul_right, div-add-mod', arith}
-use Rattle.std.proofs.lemmas.Bool.{cond_both, cases_lt, cases_Bool, leb-true, le-leb}
+use Rattle.std.proofs.Common.{◌≡◌, ℕ, suc, ◌+◌, ◌*◌, ◌≤◌, max, Bool, true, false, cond, eqb, ltb, List, [], ◌∷◌, length, is_some, Some, None, Ok, Option, sym, refl, ap, ◌∙◌, subst, ap₂, arith}
+use Rattle.std.proofs.lemmas.Bool.{cond_both}
 use Rattle.std.proofs.lemmas.Bool.Decides.{nat_tests}
-use Rattle.device.specs.Reads.{inside}
-use Rattle.layout.specs.Sizes.{is_segment_size, counted}
-use Rattle.layout.proofs.Powers.{sized}
 use Rattle.refusals.specs.declared.refusal.Refusal.{Refusal}
 use Rattle.refusals.specs.declared.refusal.Refusal.TheVariants.{Header, SameLsn}
 use Rattle.tables.specs.Entries.{find, put}
 use Rattle.scan.specs.Headers.{head_at, head_lsn, head_mark, used, odd, weight}
 use Rattle.scan.specs.Order.{Segment, Gathered, sound, unless, added, entered, enter, gather, top_mark}
 use Rattle.scan.specs.Offers.{mark_of}
-
--- ---- counted headers lie inside
-pub header-inside : (len size i : ℕ) → is_segment_size size ≡ true → i < counted len size → i * size + 20 ≤ len
-header-inside len size i z h =
-    let s = sized size z in
-    let d : len / size * size + len % size ≡ len = div-add-mod' len size in
-    ⊎_elim (λ (l : i < len / size). omega (arith, mul-le-mul_right size (le_of l), s.low))
-    (λ (l : len / size ≤ i). last l (cases_Bool (leb 20 (len % size)))) (cases_lt i (len / size))
-  where
-    le_of : {a b : ℕ} → a < b → a + 1 ≤ b
-    le_of h = omega arith
-
-    last : len / size ≤ i → (leb 20 (len % size) ≡ true) ⊎ (leb 20 (len % size) ≡ false) → i * size + 20 ≤ len
-    last l (inl t) =
-        let c : counted len size ≡ len / size + 1 = ap (λ b. len / size + cond b 1 0) t in
-        let e : i ≡ len / size = omega arith in
-        omega (arith, ap (λ n. n * size) e, leb-true 20 (len % size) t, div-add-mod' len size)
-    last l (inr t) =
-        let c : counted len size ≡ len / size + 0 = ap (λ b. len / size + cond b 1 0) t in
-        absurd (omega arith)
-
-pub header_there : (first place : ℕ) (dev : List ℕ) → first ≡ 0 → place + 20 ≤ length dev → inside first dev place 20 ≡ true
-header_there first place dev z h = ap₂ ◌&&◌ (le-leb first place (omega arith)) (le-leb (place + 20) (first + length dev) (omega arith))
 
 -- ---- what an entry adds
 put-length : (x : Segment) (ss : List Segment) → length (put x ss) ≤ length ss + 1
@@ -115,8 +89,10 @@ module _ (size : ℕ) (dev : List ℕ) (low i top : ℕ) (ss : List Segment) (s 
       record { gathers = next_is ∙ rebuilt (entered size low (i * size) head ss) after q.0 a; marks = m.0; few = m.1 }
 
   -- as the loop has it
-  pub scanning_next : (mark t : ℕ) (after : List Segment) → t ≡ max top mark → Ok mark ≡ unless (entered size low (i * size) head ss).fault (mark_of low head) → after ≡ (entered size low (i * size) head ss).segments
-      → Scanning size dev low (i + 1) t after
-  scanning_next mark t after m r a =
+  pub scanning_next : (place : ℕ) → place ≡ i * size → (mark t : ℕ) (after : List Segment) → t ≡ max top mark → Ok mark ≡ unless (entered size low place (head_at dev place) ss).fault (mark_of low (head_at dev place))
+      → after ≡ (entered size low place (head_at dev place) ss).segments → Scanning size dev low (i + 1) t after
+  scanning_next place here mark t after m r a =
       let o : suc i ≡ i + 1 = omega arith in
-      subst (λ n. Scanning size dev low n t after) o (subst (λ n. Scanning size dev low (suc i) n after) (sym m) (scanning_more mark after r a))
+      let r' = subst (λ k. Ok mark ≡ unless (entered size low k (head_at dev k) ss).fault (mark_of low (head_at dev k))) here r in
+      let a' = a ∙ ap (λ k. (entered size low k (head_at dev k) ss).segments) here in
+      subst (λ n. Scanning size dev low n t after) o (subst (λ n. Scanning size dev low (suc i) n after) (sym m) (scanning_more mark after r' a'))

@@ -1,5 +1,4 @@
 pub mod Fields
-pub mod Adds
 pub mod Visits
 pub mod Gathers
 pub mod Scans

@@ -3,6 +3,7 @@ use Rattle.std.proofs.Common.{◌≡◌, ℕ, ◌-◌, Bool, true, false, cond, 
 use Rattle.std.proofs.lemmas.Bool.{cond-true, cond-false}
 use Rattle.device.specs.Reads.{part}
 use Rattle.refusals.specs.declared.refusal.Refusal.{Refusal}
+use Rattle.scan.specs.declared.header.UsedHeader.{UsedHeader}
 use Rattle.scan.specs.Headers.{head_at, head_lsn, head_mark, used, weight}
 use Rattle.scan.specs.Order.{Segment, Gathered, sound, unless, added, entered}
 use Rattle.scan.specs.Offers.{offered, mark_of}
@@ -37,37 +38,37 @@ module _ (size low place : ℕ) (h : List ℕ) (ss : List Segment) where
   pub seen_none : None ≡ offered low h → Seen (Ok 0) ss
   unfolding unless entered mark_of
   seen_none e =
-      let u = none_used (used low h) (head_lsn h, weight (head_mark h)) e in
+      let u = none_used (used low h) (record { lsn = head_lsn h; mark = weight (head_mark h) }) e in
       let q : entered size low place h ss ≡ sound ss = grind arith in
       let m : mark_of low h ≡ 0 = cond-false _ _ _ u in
       record { reply = sym (ap (λ (g : Gathered). unless g.fault (mark_of low h)) q ∙ ap Ok m); contents = sym (ap (λ (g : Gathered). g.segments) q) }
 
-  module _ (lsn mark : ℕ) (e : ◌≡◌ {A = Option (ℕ × ℕ)} (Some (lsn, mark)) (offered low h)) where
+  module _ (o : UsedHeader) (e : Some o ≡ offered low h) where
     is_used : used low h ≡ true
-    is_used = (some_used (used low h) (lsn, mark) (head_lsn h, weight (head_mark h)) e).0
+    is_used = (some_used (used low h) o (record { lsn = head_lsn h; mark = weight (head_mark h) }) e).0
 
-    fields : ◌≡◌ {A = ℕ × ℕ} (lsn, mark) (head_lsn h, weight (head_mark h))
-    fields = (some_used (used low h) (lsn, mark) (head_lsn h, weight (head_mark h)) e).1
+    fields : o ≡ record { lsn = head_lsn h; mark = weight (head_mark h) }
+    fields = (some_used (used low h) o (record { lsn = head_lsn h; mark = weight (head_mark h) }) e).1
 
-    is-added : entered size low place h ss ≡ added size place lsn mark ss
+    is-added : entered size low place h ss ≡ added size place o.lsn o.mark ss
     unfolding entered
     is-added =
         let u = is_used in
         let q : entered size low place h ss ≡ added size place (head_lsn h) (weight (head_mark h)) ss = grind arith in
-        q ∙ sym (ap (λ (p : ℕ × ℕ). added size place p.0 p.1 ss) fields)
+        q ∙ sym (ap (λ (p : UsedHeader). added size place p.lsn p.mark ss) fields)
 
-    mark_is : mark_of low h ≡ mark
+    mark_is : mark_of low h ≡ o.mark
     unfolding mark_of
-    mark_is = cond-true _ _ _ is_used ∙ sym (ap (λ (p : ℕ × ℕ). p.1) fields)
+    mark_is = cond-true _ _ _ is_used ∙ sym (ap (λ (p : UsedHeader). p.mark) fields)
 
-    seen : (r : Result ℕ Refusal) (after : List Segment) → r ≡ unless (added size place lsn mark ss).fault mark → after ≡ (added size place lsn mark ss).segments → Seen r after
+    seen : (r : Result ℕ Refusal) (after : List Segment) → r ≡ unless (added size place o.lsn o.mark ss).fault o.mark → after ≡ (added size place o.lsn o.mark ss).segments → Seen r after
     seen r after e c = record {
-      reply = e ∙ ap (unless (added size place lsn mark ss).fault) (sym mark_is) ∙ ap (λ (g : Gathered). unless g.fault (mark_of low h)) (sym is-added);
+      reply = e ∙ ap (unless (added size place o.lsn o.mark ss).fault) (sym mark_is) ∙ ap (λ (g : Gathered). unless g.fault (mark_of low h)) (sym is-added);
       contents = c ∙ ap (λ (g : Gathered). g.segments) (sym is-added);
     }
 
-    pub seen_ok : (after : List Segment) → Ok (tt {0}) ≡ unless (added size place lsn mark ss).fault (tt {0}) → after ≡ (added size place lsn mark ss).segments → Seen (Ok mark) after
-    seen_ok after r c = seen (Ok mark) after (sym (unless_ok (added size place lsn mark ss).fault mark r)) c
+    pub seen_ok : (after : List Segment) → Ok (tt {0}) ≡ unless (added size place o.lsn o.mark ss).fault (tt {0}) → after ≡ (added size place o.lsn o.mark ss).segments → Seen (Ok o.mark) after
+    seen_ok after r c = seen (Ok o.mark) after (sym (unless_ok (added size place o.lsn o.mark ss).fault o.mark r)) c
 
-    pub seen_err : (f : Refusal) (after : List Segment) → Err f ≡ unless (added size place lsn mark ss).fault (tt {0}) → after ≡ (added size place lsn mark ss).segments → Seen (Err f) after
-    seen_err f after r c = seen (Err f) after (sym (unless_err (added size place lsn mark ss).fault f (tt {0}) mark r)) c
+    pub seen_err : (f : Refusal) (after : List Segment) → Err f ≡ unless (added size place o.lsn o.mark ss).fault (tt {0}) → after ≡ (added size place o.lsn o.mark ss).segments → Seen (Err f) after
+    seen_err f after r c = seen (Err f) after (sym (unless_err (added size place o.lsn o.mark ss).fault f (tt {0}) o.mark r)) c

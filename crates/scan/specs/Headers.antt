@@ -4,7 +4,7 @@
 --   used low h               the header checks, and its LSN is neither below zero nor below `low`
 --   weight mark              what a mark counts
 --   odd size lsn mark        a used header that is a fault
-use Rattle.std.specs.Prelude.{ℕ, ◌%◌, ◌^◌, Bool, cond, not, ◌&&◌, ◌||◌, List, take, drop, ◌==◌, nat_le}
+use Rattle.std.specs.Prelude.{ℕ, ◌%◌, ◌^◌, Bool, if◌then◌else◌, not, ◌&&◌, ◌||◌, List, take, drop, ◌==◌, nat_le}
 use Rattle.codec.specs.Fields.{below}
 use Rattle.codec.specs.Numbers.{little}
 use Rattle.codec.specs.Segments.{masked, checks}
@@ -23,7 +23,7 @@ used low h = checks h && (not (below (head_lsn h)) && nat_le low (head_lsn h))
 
 -- a mark below zero counts for nothing
 unfoldable pub weight : ℕ → ℕ
-weight mark = cond (below mark) 0 mark
+weight mark = if below mark then 0 else mark
 
 -- a used header's LSN is no multiple of the size, or LSN or mark is too large
 unfoldable pub odd : ℕ → ℕ → ℕ → Bool

@@ -6,7 +6,7 @@
 --   gather size dev low n  the first n headers, in device order
 --   top_mark dev low ss    the largest of `low` and the stable marks of the segments
 --   scanned ..             what a scan with room for some entries finds
-use Rattle.std.specs.Prelude.{ℕ, zero, suc, ◌*◌, max, true, false, cond, List, [], ◌∷◌, length, is_some, Some, None, Ok, Err, Option, Result, nat_lt}
+use Rattle.std.specs.Prelude.{ℕ, zero, suc, ◌*◌, max, if◌then◌else◌, List, [], ◌∷◌, length, is_some, Some, None, Ok, Err, Option, Result, nat_lt}
 use Rattle.layout.specs.Sizes.{is_segment_size, counted}
 use Rattle.refusals.specs.declared.refusal.Refusal.{Refusal}
 use Rattle.refusals.specs.declared.refusal.Refusal.TheVariants.{Size, Buffer, Header, SameLsn}
@@ -35,18 +35,10 @@ unless (Some e) x = Err e
 -- a used header with an LSN and a mark: 3, then 4, else a segment more
 unfoldable pub added : ℕ → ℕ → ℕ → ℕ → List Segment → Gathered
 added size place lsn mark ss =
-    elim (odd size lsn mark) [
-      | true ↦ faulty ss (Header place)
-      | false ↦
-          elim (is_some (find lsn ss)) [
-            | true ↦ faulty ss (SameLsn place)
-            | false ↦
-                sound (put (record { key = lsn; value = place }) ss)
-          ]
-    ]
+    if odd size lsn mark then faulty ss (Header place) else if is_some (find lsn ss) then faulty ss (SameLsn place) else sound (put (record { key = lsn; value = place }) ss)
 
 unfoldable pub entered : ℕ → ℕ → ℕ → List ℕ → List Segment → Gathered
-entered size low place h ss = elim (used low h) [ false ↦ sound ss | true ↦ added size place (head_lsn h) (weight (head_mark h)) ss ]
+entered size low place h ss = if used low h then added size place (head_lsn h) (weight (head_mark h)) ss else sound ss
 
 unfoldable pub enter : ℕ → ℕ → ℕ → List ℕ → Gathered → Gathered
 enter size low place h g = elim g.fault [ Some e ↦ g | None ↦ entered size low place h g.segments ]
@@ -65,4 +57,4 @@ gathered size dev low = gather size dev low (counted (length dev) size)
 
 unfoldable pub scanned : ℕ → ℕ → List ℕ → ℕ → Gathered
 scanned room size dev low =
-    cond (is_segment_size size) (cond (nat_lt room (counted (length dev) size)) (faulty [] Buffer) (gathered size dev low)) (faulty [] Size)
+    if is_segment_size size then (if nat_lt room (counted (length dev) size) then faulty [] Buffer else gathered size dev low) else faulty [] Size

@@ -6,10 +6,10 @@ ghost use Rattle.scan.specs.Headers.{head_at};
 ghost use Rattle.scan.specs.Order.{unless, entered, top_mark, scanned};
 ghost use Rattle.scan.specs.Offers.{mark_of};
 
-use crate::header::{add, usable};
+use crate::header::UsedHeader;
 use codec::Lsn;
 use device::{Device, ReadAt};
-use layout::{SEG_HEADER_LEN, segment_count};
+use layout::{SEG_HEADER_LEN, SegmentSize};
 use messages::LogOffset;
 use refusals::Refusal;
 use tables::SortedTable;
@@ -24,29 +24,25 @@ fn header_at<R: ReadAt>(view: &R, place: u64) -> [u8; SEG_HEADER_LEN]
 }
 
 // The header at a place; what its mark counts.
-fn visit<R: ReadAt>(
-    view: &R,
+fn visit<D: Device>(
+    device: &D,
     order: &mut SortedTable<LogOffset>,
-    size: u64,
+    size: SegmentSize,
     low: Lsn,
     place: LogOffset,
 ) -> Result<Lsn, Refusal>
-    requires base { R.ReadAt.first view.now ≡ 0 }
-    requires there { inside (R.ReadAt.first view.now) (R.ReadAt.bytes view.now) place 20 ≡ true }
-    requires sized { 0 < size }
+    requires base { D.ReadAt.first device.now ≡ 0 }
+    requires there { inside (D.ReadAt.first device.now) (D.ReadAt.bytes device.now) place 20 ≡ true }
     requires room { length (contents order.old) < capacity order.old }
-    ensures reply { result ≡ unless (entered size low place (head_at (R.ReadAt.bytes view.now) place) (contents order.old)).fault (mark_of low (head_at (R.ReadAt.bytes view.now) place)) }
-    ensures contents { contents order.new ≡ (entered size low place (head_at (R.ReadAt.bytes view.now) place) (contents order.old)).segments }
+    ensures reply { result ≡ unless (entered size low place (head_at (D.ReadAt.bytes device.now) place) (contents order.old)).fault (mark_of low (head_at (D.ReadAt.bytes device.now) place)) }
+    ensures contents { contents order.new ≡ (entered size low place (head_at (D.ReadAt.bytes device.now) place) (contents order.old)).segments }
     ensures same { Same order.old order.new }
 {
-    let header = header_at(view, place);
-    match usable(&header, low) {
-        None => Ok(0),
-        Some((lsn, mark)) => match add(order, size, place, lsn, mark) {
-            Ok(()) => Ok(mark),
-            Err(e) => Err(e),
-        },
-    }
+    let Some(header) = UsedHeader::read(&header_at(device, place), low) else {
+        return Ok(0);
+    };
+    header.add_to(order, size, place)?;
+    Ok(header.mark)
 }
 
 // Enters every used segment of the device into the order, in place of what it held, and replies the largest of `low` and their
@@ -65,16 +61,14 @@ pub fn scan<D: Device>(
     ensures same { Same order.old order.new }
 {
     order.clear();
-    let len = device.len();
-    let Some(count) = segment_count(len, size) else {
-        return Err(Refusal::Size);
-    };
+    let size = SegmentSize::new(size).ok_or(Refusal::Size)?;
+    let count = size.count_in(device.len());
     if count > order.capacity() as u64 {
         return Err(Refusal::Buffer);
     }
     let mut top = low;
     for i in 0..count {
-        let mark = visit(device, order, size, low, i * size)?;
+        let mark = visit(device, order, size, low, i * size.bytes())?;
         top = top.max(mark);
     }
     Ok(top)

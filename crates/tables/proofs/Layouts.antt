@@ -10,7 +10,7 @@ use Rattle.tables.specs.declared.entry.Entry.{Entry}
 use Rattle.tables.specs.declared.table.SortedTable.{SortedTable}
 use Rattle.tables.specs.Entries.{rising, put, Located, laid}
 use Rattle.tables.specs.Views.{contents, capacity, lent, Same}
-use Rattle.tables.proofs.Moves.{Turned, inserted_by, removed_by}
+use Rattle.tables.proofs.Moves.{LastFirst, inserted_by, removed_by}
 use Rattle.tables.proofs.Puts.{put_found, put_none, rising-put}
 use Rattle.tables.proofs.Ranks.{rank_most}
 use Rattle.tables.proofs.Steps.{rising_parts}
@@ -77,7 +77,7 @@ module _ {V : Type 0} where
         (ap (λ l. set l at x) t.clean ∙ set-append_left es (replicate (capacity t - length es) spare) at x l.0 ∙ ap₂ (λ l k. l ++ replicate (capacity t - k) spare) new (sym long))
 
     -- the entry written past those in use, and then they are turned by one from its place on
-    pub holds_inserted : (x : Entry V) (at : ℕ) (turned : List (Entry V)) → Located x.key (contents t) (Err at) → (t.len ≡ capacity t → ⊥) → Turned at (t.len + 1 - at) (set (lent t) t.len x) turned
+    pub holds_inserted : (x : Entry V) (at : ℕ) (turned : List (Entry V)) → Located x.key (contents t) (Err at) → (t.len ≡ capacity t → ⊥) → LastFirst at (t.len + 1 - at) (set (lent t) t.len x) turned
         → Holds (capacity t) t.blank (t.len + 1) (put_mid at (t.len + 1 - at) (set (lent t) t.len x) turned) (put x (contents t))
     unfolding laid
     holds_inserted x at turned l left is =

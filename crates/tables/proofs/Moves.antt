@@ -5,12 +5,12 @@ use Rattle.std.specs.List.{insert}
 use Rattle.std.proofs.lemmas.List.{drop_more, set_at, take_at, drop_at, length-take-le}
 
 module _ {X : Type 0} where
-  -- the k items from `at` on, after `rotate_right(1)`
-  abbrev pub Turned : ℕ → ℕ → List X → List X → Type 0
-  Turned at k xs last = last ≡ drop (length (take k (drop at xs)) - 1) (take k (drop at xs)) ++ take (length (take k (drop at xs)) - 1) (take k (drop at xs))
+  -- the k items from `at` on, after `rotate_right(1)`: the last of them stands first
+  abbrev pub LastFirst : ℕ → ℕ → List X → List X → Type 0
+  LastFirst at k xs last = last ≡ drop (length (take k (drop at xs)) - 1) (take k (drop at xs)) ++ take (length (take k (drop at xs)) - 1) (take k (drop at xs))
 
   -- `s[n] = x; s[at..=n].rotate_right(1)`
-  pub inserted_by : (xs last : List X) (at n : ℕ) (x : X) → at ≤ n → n < length xs → Turned at (n + 1 - at) (set xs n x) last
+  pub inserted_by : (xs last : List X) (at n : ℕ) (x : X) → at ≤ n → n < length xs → LastFirst at (n + 1 - at) (set xs n x) last
       → put_mid at (n + 1 - at) (set xs n x) last ≡ insert (take n xs) at x ++ drop (n + 1) xs
   inserted_by xs last at n x le lt e =
       let A = take at (take n xs) in

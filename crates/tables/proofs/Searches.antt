@@ -33,12 +33,12 @@ module _ {V : Type 0} where
   rank_below_higher k (e ∷ es) at h high =
       ⊎_elim (λ inside. rank_above k at (e ∷ es) e inside (omega (arith, high e inside))) (λ past. omega (arith, rank_most k (e ∷ es))) (cases_lt at (length (e ∷ es)))
 
-  pub located : (k : ℕ) (es : List (Entry V)) (r : Result ℕ ℕ) → rising es ≡ true → IsSearchInRange r (length es) → IsBinarySearchResult (λ e. nat_cmp e.key k) es r → Located k es r
-  located k [] (Ok at) o h s = absurd (not-suc-le-zero h)
-  located k (e ∷ es) (Ok at) o h s =
+  pub search_ends : (k : ℕ) (es : List (Entry V)) (r : Result ℕ ℕ) → rising es ≡ true → IsSearchInRange r (length es) → IsBinarySearchResult (λ e. nat_cmp e.key k) es r → Located k es r
+  search_ends k [] (Ok at) o h s = absurd (not-suc-le-zero h)
+  search_ends k (e ∷ es) (Ok at) o h s =
       let here : (get_or (e ∷ es) at e).key ≡ k = ranked _ k _ (sym (s e)) in
       (h, rank_here k at (e ∷ es) e o h here, ap is_some (find_here k at (e ∷ es) e o h here))
-  located k es (Err at) o h s =
+  search_ends k es (Err at) o h s =
       let sides = s (comparisons_rise k es o) in
       let low = λ (i : ℕ) (d : Entry V) (lt : i < at). ranked _ k _ (sym (sides.0 i d (omega arith) lt)) in
       let high = λ (d : Entry V) (lt : at < length es). ranked _ k _ (sym (sides.1 at d (omega arith) lt)) in
