@@ -31,7 +31,6 @@ fn visit<D: Device>(
     low: Lsn,
     place: LogOffset,
 ) -> Result<Lsn, Refusal>
-    requires base { D.ReadAt.first device.now ≡ 0 }
     requires there { inside (D.ReadAt.first device.now) (D.ReadAt.bytes device.now) place 20 ≡ true }
     requires room { length (contents order.old) < capacity order.old }
     ensures reply { result ≡ unless (entered size low place (head_at (D.ReadAt.bytes device.now) place) (contents order.old)).fault (mark_of low (head_at (D.ReadAt.bytes device.now) place)) }
