@@ -1,6 +1,8 @@
--- A tail in memory. Assumes nothing.
+-- A tail in memory: its segments, and the first absent LSN where there is a gap. Assumes nothing.
+use Rattle.std.specs.Prelude.{◌≡◌, if◌then◌else◌, Some, None}
 use Rattle.walks.specs.Walks.{Tail}
 use Rattle.recovery.specs.declared.tail.Tail.{Tail as Found}
 
-abbrev pub tail_of : Found → Tail
-tail_of t = record { segments = t.segments.now; absent = t.absent; gap = t.gap }
+pub record TailIs (found : Found) (t : Tail) : Type 0 where
+  pub segments : found.segments.now ≡ t.segments
+  pub gap : found.gap ≡ (if t.gap then Some t.absent else None)

@@ -1,9 +1,8 @@
 // The tail of a log: the segments that follow each other from a start on.
-ghost use Rattle.std.specs.Prelude.{◌≡◌};
 ghost use Rattle.std.specs.List.{All};
 ghost use Rattle.tables.specs.Views.{contents};
 ghost use Rattle.recovery.specs.Small.{Small};
-ghost use Rattle.recovery.specs.Tails.{tail_of};
+ghost use Rattle.recovery.specs.Tails.{TailIs};
 ghost use Rattle.walks.specs.Walks.{tail_from, tail};
 
 use crate::course::Segment;
@@ -12,35 +11,32 @@ use layout::SegmentSize;
 use messages::LogOffset;
 use tables::SortedTable;
 
-// Its segments; behind them comes the first absent LSN, and further segments where there is a gap.
+// Its segments, and the first absent LSN, where further segments lie behind it.
 #[derive(Clone, Copy)]
 pub(crate) struct Tail<'a> {
     pub(crate) segments: &'a [Segment],
-    pub(crate) absent: Lsn,
-    pub(crate) gap: bool,
+    pub(crate) gap: Option<Lsn>,
 }
 
 // The segments that follow each other from `start` on.
 #[tactic(auto, using(crate::proofs::Tails::following))]
 fn follow(segments: &[Segment], size: SegmentSize, start: Lsn) -> Tail<'_>
     requires { All (Small size) segments.now }
-    ensures { tail_of result ≡ tail_from size start segments.now }
+    ensures { TailIs result (tail_from size start segments.now) }
 {
     let mut absent = start;
     for (n, s) in segments.iter().enumerate() {
         if s.key != absent {
             return Tail {
                 segments: &segments[..n],
-                absent,
-                gap: true,
+                gap: Some(absent),
             };
         }
         absent += size.bytes();
     }
     Tail {
         segments,
-        absent,
-        gap: false,
+        gap: None,
     }
 }
 
@@ -50,7 +46,7 @@ pub(crate) fn find_tail<'a>(
     start: Lsn,
 ) -> Tail<'a>
     requires { All (Small size) (contents order.now) }
-    ensures { tail_of result ≡ tail size start (contents order.now) }
+    ensures { TailIs result (tail size start (contents order.now)) }
 {
     let order = order.entries();
     let from = order.partition_point(|s| s.key < start);
