@@ -3,7 +3,7 @@ ghost use Rattle.std.specs.Prelude.{◌≡◌, ◌+◌, length, Some, None, nat_
 ghost use Rattle.std.specs.Option.{option_map};
 ghost use Rattle.blobs.specs.Banks.{cut};
 
-// The kind in its file, and whether the file is whole.
+// The kind in its file, and whether the file is whole: a damaged file has a kind too, so no Option of a kind.
 #[derive(Clone, Copy, PartialEq, Eq, Debug)]
 pub struct Note {
     pub kind: u8,

@@ -1,6 +1,6 @@
 -- What division by the generator is: the dividend is a multiple of the generator plus a remainder of lower degree.
 -- A polynomial over GF(2) is a number here, the coefficient of x^i in bit i, so a sum is `bit_xor`. Assumes nothing.
-use Rattle.std.specs.Prelude.{◌≡◌, ℕ, ◌+◌, ◌*◌, Bool, cond, List, [], ◌∷◌, length, bit_xor}
+use Rattle.std.specs.Prelude.{◌≡◌, ℕ, ◌+◌, ◌*◌, Bool, if◌then◌else◌, List, [], ◌∷◌, length, bit_xor}
 use Rattle.checksum.specs.Crc.{bit, remainder}
 
 -- a list of coefficients, the highest power first, after those of a
@@ -14,7 +14,7 @@ value bs = value_from 0 bs
 -- the product of such a list and g: at each coefficient the product so far times x, plus g where it is 1
 abbrev pub times_from : ℕ → List Bool → ℕ → ℕ
 times_from a [] g = a
-times_from a (b ∷ bs) g = times_from (bit_xor (a * 2) (cond b g 0)) bs g
+times_from a (b ∷ bs) g = times_from (bit_xor (a * 2) (if b then g else 0)) bs g
 
 abbrev pub times : List Bool → ℕ → ℕ
 times q g = times_from 0 q g

@@ -1,4 +1,4 @@
-// The eight tables of the register's turns.
+// The eight tables of the register's turns. They stand as numbers: a constant cannot be computed by a call.
 mod far;
 mod near;
 

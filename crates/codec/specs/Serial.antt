@@ -1,7 +1,7 @@
 -- What a reader and a writer reply, whatever the type (docs/FORMAT.md, "The law of written values"). Assumes nothing.
 --   next o f            o was read, and f reads on behind it
 --   placed len at n     n bytes from `at` in a buffer of `len`: where they end, or that it is too short
-use Rattle.std.specs.Prelude.{ℕ, ◌+◌, cond, List, Some, None, Ok, Err, Option, Result, nat_le}
+use Rattle.std.specs.Prelude.{ℕ, ◌+◌, if◌then◌else◌, List, Some, None, Ok, Err, Option, Result, nat_le}
 use Rattle.codec.specs.declared.error.CodecError.{CodecError}
 use Rattle.codec.specs.declared.error.CodecError.TheVariants.{TooShort}
 
@@ -10,4 +10,4 @@ next None f = None
 next (Some p) f = f p.0 p.1
 
 abbrev pub placed : ℕ → ℕ → ℕ → Result ℕ CodecError
-placed len at n = cond (nat_le (at + n) len) (Ok (at + n)) (Err TooShort)
+placed len at n = if nat_le (at + n) len then Ok (at + n) else Err TooShort

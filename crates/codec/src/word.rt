@@ -24,11 +24,7 @@ impl Word {
     pub fn lsn(self) -> Option<Lsn>
         ensures { result ≡ (if below self.bits then None else Some self.bits) }
     {
-        if self.bits >= 0x8000_0000_0000_0000 {
-            None
-        } else {
-            Some(self.bits)
-        }
+        (self.bits < 0x8000_0000_0000_0000).then_some(self.bits)
     }
 
     // The field with its sign.

@@ -7,6 +7,7 @@ use std::marker::Model;
 const ENTRIES: usize = 64;
 
 // An entry names the block that it covers, or none. Only the first `live` entries are used: those with room in the cover.
+// They are an array: making a cover allocates nothing.
 #[derive(Drop)]
 pub(crate) struct BlockTable {
     slots: [Option<u64>; ENTRIES],

@@ -4,7 +4,7 @@
 --   wrote d at new   an accepted write
 --   zeroed d zs      zeros written, each given by place and number
 --   needs d places   how many of the places' blocks are not loose yet, each counted once
-use Rattle.std.specs.Prelude.{◌≡◌, ℕ, ◌+◌, ◌/◌, Bool, cond, List, [], ◌∷◌, length, replicate}
+use Rattle.std.specs.Prelude.{◌≡◌, ℕ, ◌+◌, ◌/◌, Bool, if◌then◌else◌, List, [], ◌∷◌, length, replicate}
 use Rattle.device.specs.Writes.{written, loosened, spent}
 
 pub record Meaning : Type 0 where
@@ -37,7 +37,7 @@ zeroed d (z ∷ zs) = zeroed (wrote d z.0 (replicate z.1 0)) zs
 -- by the blocks that are loose before
 unfoldable pub needed : ℕ → (ℕ → Bool) → List ℕ → ℕ
 needed size loose [] = 0
-needed size loose (p ∷ ps) = cond (loose (p / size)) 0 1 + needed size (loosened size loose p 1) ps
+needed size loose (p ∷ ps) = (if loose (p / size) then 0 else 1) + needed size (loosened size loose p 1) ps
 
 abbrev pub needs : Meaning → List ℕ → ℕ
 needs d places = needed d.block_size d.loose places

@@ -7,7 +7,7 @@
 --   filled               a buffer `dst` for them after such a read: the bytes that there are, and its own behind them
 --   exact_reply          what a read of all of them replies
 --   eof_reply            what a read of as many as there are replies
-use Rattle.std.specs.Prelude.{ℕ, ◌+◌, ◌-◌, min, Bool, cond, ◌&&◌, ◌||◌, List, ◌++◌, length, take, drop, Ok, Err, Result, ◌==◌, nat_le}
+use Rattle.std.specs.Prelude.{ℕ, ◌+◌, ◌-◌, min, Bool, if◌then◌else◌, ◌&&◌, ◌||◌, List, ◌++◌, length, take, drop, Ok, Err, Result, ◌==◌, nat_le}
 use Rattle.device.specs.declared.error.DeviceError.{DeviceError}
 use Rattle.device.specs.declared.error.DeviceError.TheVariants.{Outside}
 
@@ -28,7 +28,7 @@ filled first bytes at dst =
     part first bytes at (available first bytes at (length dst)) ++ drop (available first bytes at (length dst)) dst
 
 abbrev pub exact_reply : ℕ → List ℕ → ℕ → ℕ → Result (Unit {0}) DeviceError
-exact_reply first bytes at n = cond (inside first bytes at n) (Ok tt) (Err Outside)
+exact_reply first bytes at n = if inside first bytes at n then Ok tt else Err Outside
 
 abbrev pub eof_reply : ℕ → List ℕ → ℕ → ℕ → Result ℕ DeviceError
-eof_reply first bytes at n = cond (begins first bytes at) (Ok (available first bytes at n)) (Err Outside)
+eof_reply first bytes at n = if begins first bytes at then Ok (available first bytes at n) else Err Outside

@@ -25,9 +25,7 @@ fn stretch(buf: &mut Vec<u8>, end: usize)
     ensures room { vec_capacity buf.old ≤ vec_capacity buf.new }
 {
     if buf.len() < end {
-        let Ok(()) = buf.resize(end, 0) else {
-            unreachable()
-        };
+        buf.resize(end, 0).unwrap();
     }
 }
 
@@ -68,9 +66,7 @@ impl Image {
             return Err(SetupError::Refused(DeviceError::Outside));
         }
         let mut buf = Vec::with_capacity(heap, capacity as usize)?;
-        let Ok(()) = buf.extend_from_slice(bytes) else {
-            unreachable()
-        };
+        buf.extend_from_slice(bytes).unwrap();
         Ok(Image { buf, geometry })
     }
 

@@ -2,7 +2,7 @@
 --   kind_number k   the byte of a kind
 --   kind_of b       the kind of a byte: no message at 0 and above 11
 --   meant k         what a kind means to a reader of the log
-use Rattle.std.specs.Prelude.{ℕ, cond, ◌==◌}
+use Rattle.std.specs.Prelude.{ℕ, if◌then◌else◌, ◌==◌}
 use Rattle.layout.specs.declared.kind.MessageKind.{MessageKind}
 use Rattle.layout.specs.declared.kind.MessageKind.TheVariants.{Corrupted, Canceled, Cap, BatchManifest, Free, Counter, InlineMeta, BlobMeta, InlineNode, BlobNode, InlineLink, BlobLink}
 use Rattle.layout.specs.declared.kind.LogKind.TheVariants.{Replace, Link, Free as Freed}
@@ -26,11 +26,18 @@ kind_number BlobLink = 11
 
 abbrev pub kind_of : ℕ → MessageKind
 kind_of b =
-    cond (b == 1) Canceled (cond (b == 2) Cap (cond (b == 3) BatchManifest (
-    cond (b == 4) Free (cond (b == 5) Counter (
-    cond (b == 6) InlineMeta (cond (b == 7) BlobMeta (
-    cond (b == 8) InlineNode (cond (b == 9) BlobNode (
-    cond (b == 10) InlineLink (cond (b == 11) BlobLink Corrupted))))))))))
+    if b == 1 then Canceled
+    else if b == 2 then Cap
+    else if b == 3 then BatchManifest
+    else if b == 4 then Free
+    else if b == 5 then Counter
+    else if b == 6 then InlineMeta
+    else if b == 7 then BlobMeta
+    else if b == 8 then InlineNode
+    else if b == 9 then BlobNode
+    else if b == 10 then InlineLink
+    else if b == 11 then BlobLink
+    else Corrupted
 
 abbrev pub meant : MessageKind → Meaning
 meant Corrupted = NoMessage

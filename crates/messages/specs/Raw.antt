@@ -6,7 +6,7 @@
 --   judged ..             by length and kind, then by what there is, then decided
 --   raw_at ..             the message at a place of a view
 --   body_read ..          how many bytes of body were read besides the 128
-use Rattle.std.specs.Prelude.{ℕ, ◌+◌, ◌-◌, ◌%◌, Bool, cond, ◌&&◌, ◌||◌, List, ◌++◌, length, take, drop, replicate, Some, None, Option, Ok, Err, Result, ◌==◌, nat_le, nat_lt}
+use Rattle.std.specs.Prelude.{ℕ, ◌+◌, ◌-◌, ◌%◌, Bool, if◌then◌else◌, ◌&&◌, ◌||◌, List, ◌++◌, length, take, drop, replicate, Some, None, Option, Ok, Err, Result, ◌==◌, nat_le, nat_lt}
 use Rattle.layout.specs.Kinds.{kind_number}
 use Rattle.layout.specs.declared.kind.MessageKind.{MessageKind}
 use Rattle.codec.specs.Messages.{message_sum, read_message_header}
@@ -33,20 +33,20 @@ abbrev pub known : MessageKind → Bool
 known k = nat_lt 0 (kind_number k)
 
 unfoldable pub word_in : List ℕ → Option Word
-word_in body = cond (length body == 8) (Some (record { bits = little body })) None
+word_in body = if length body == 8 then Some (record { bits = little body }) else None
 
 abbrev pub reached : ℕ → ℕ → ℕ → Bool
 reached have hl n = nat_le (hl + n) 128 || nat_le (hl + n) have
 
 unfoldable pub decided : MessageHeader → ℕ → List ℕ → List ℕ → Raw
 decided h number header body =
-    cond (h.crc32 == message_sum header body && h.segment_number == number)
-    (Ok (record { kind = h.kind; pid = h.pid; len = length header + h.len; word = word_in body })) (Err Corrupted)
+    if h.crc32 == message_sum header body && h.segment_number == number then Ok (record { kind = h.kind; pid = h.pid; len = length header + h.len; word = word_in body })
+    else Err Corrupted
 
 unfoldable pub judged : ℕ → ℕ → ℕ → ℕ → List ℕ → MessageHeader → ℕ → Raw
 judged size number p have w h hl =
-    cond (nat_le (p + (hl + h.len)) size && known h.kind)
-    (cond (reached have hl h.len) (decided h number (take hl w) (take h.len (drop hl w))) (Err Short)) (Err Corrupted)
+    if nat_le (p + (hl + h.len)) size && known h.kind then (if reached have hl h.len then decided h number (take hl w) (take h.len (drop hl w)) else Err Short)
+    else Err Corrupted
 
 abbrev pub raw_in : ℕ → ℕ → ℕ → ℕ → List ℕ → Option (MessageHeader × List ℕ) → Raw
 raw_in size number p have w None = Err Corrupted
@@ -54,12 +54,13 @@ raw_in size number p have w (Some q) = judged size number p have w q.0 (128 - le
 
 unfoldable pub raw_at : ℕ → ℕ → ℕ → List ℕ → ℕ → Raw
 raw_at size number first bytes place =
-    cond (is_entry size (place % size) && begins first bytes place)
-    (raw_in size number (place % size) (first + length bytes - place) (ahead bytes (place - first)) (read_message_header (take 128 (ahead bytes (place - first))))) (Err Short)
+    if is_entry size (place % size) && begins first bytes place then raw_in size number (place % size) (first + length bytes - place) (ahead bytes (place - first)) (read_message_header (take 128 (ahead bytes (place - first))))
+    else Err Short
 
 unfoldable pub body_needed : ℕ → ℕ → ℕ → MessageHeader → ℕ → ℕ
 body_needed size p have h hl =
-    cond (nat_le (p + (hl + h.len)) size && known h.kind) (cond (nat_le (hl + h.len) 128) 0 (cond (nat_le (hl + h.len) have) h.len 0)) 0
+    if nat_le (p + (hl + h.len)) size && known h.kind then (if nat_le (hl + h.len) 128 then 0 else if nat_le (hl + h.len) have then h.len else 0)
+    else 0
 
 abbrev pub body_in : ℕ → ℕ → ℕ → Option (MessageHeader × List ℕ) → ℕ
 body_in size p have None = 0
@@ -67,8 +68,8 @@ body_in size p have (Some q) = body_needed size p have q.0 (128 - length q.1)
 
 unfoldable pub body_read : ℕ → ℕ → List ℕ → ℕ → ℕ
 body_read size first bytes place =
-    cond (is_entry size (place % size) && begins first bytes place)
-    (body_in size (place % size) (first + length bytes - place) (read_message_header (take 128 (ahead bytes (place - first))))) 0
+    if is_entry size (place % size) && begins first bytes place then body_in size (place % size) (first + length bytes - place) (read_message_header (take 128 (ahead bytes (place - first))))
+    else 0
 
 -- a lent buffer whose first n bytes were used and zeroed again
 abbrev pub cleared : ℕ → List ℕ → List ℕ

@@ -6,7 +6,7 @@
 --   understood                   any read
 --   Stands                       a written message in a view
 --   message_read ..              the reply of a read, the caller's buffer and size checked first
-use Rattle.std.specs.Prelude.{◌≡◌, ℕ, ◌+◌, ◌/◌, ◌%◌, ◌^◌, ◌<◌, ◌≤◌, true, cond, ◌&&◌, List, ◌++◌, length, Some, None, Ok, Err, Option, Result, ◌==◌, nat_le}
+use Rattle.std.specs.Prelude.{◌≡◌, ℕ, ◌+◌, ◌/◌, ◌%◌, ◌^◌, ◌<◌, ◌≤◌, true, if◌then◌else◌, ◌&&◌, List, ◌++◌, length, Some, None, Ok, Err, Option, Result, ◌==◌, nat_le}
 use Rattle.blobs.specs.declared.note.Note.{Note}
 use Rattle.codec.specs.Messages.{message}
 use Rattle.codec.specs.declared.word.Word.{Word}
@@ -34,7 +34,8 @@ record_of f kind lsn ptr = record { kind = kind; pid = f.pid; lsn = lsn; ptr = p
 abbrev pub note_told : ℕ → ℕ → Found → LogKind → ℕ → Option Note → Result LogRead Refusal
 note_told place lsn f kind pointer None = Ok (Dangling f.len)
 note_told place lsn f kind pointer (Some note) =
-    cond (note.sound && note.kind == kind_number f.kind) (Ok (Yielded (record_of f kind lsn (Blob place pointer)))) (Err (BadBlob place))
+    if note.sound && note.kind == kind_number f.kind then Ok (Yielded (record_of f kind lsn (Blob place pointer)))
+    else Err (BadBlob place)
 
 abbrev pub blob_told : (ℕ → Option Note) → ℕ → ℕ → Found → LogKind → Option Word → Result LogRead Refusal
 blob_told notes place lsn f kind None = Err (Body place)
@@ -59,7 +60,8 @@ understood notes place lsn (Err Ended) = Ok Short
 
 abbrev pub message_read : (ℕ → Option Note) → ℕ → ℕ → ℕ → ℕ → List ℕ → ℕ → Result LogRead Refusal
 message_read notes room size lsn first bytes place =
-    cond (is_segment_size size) (cond (nat_le size room) (understood notes place lsn (raw_at size (lsn / size) first bytes place)) (Err Buffer)) (Err Size)
+    if is_segment_size size then (if nat_le size room then understood notes place lsn (raw_at size (lsn / size) first bytes place) else Err Buffer)
+    else Err Size
 
 -- a message with its checksum and segment number
 abbrev pub found_of : MessageKind → ℕ → ℕ → List ℕ → Found
@@ -78,4 +80,6 @@ pub record Stands (size number first place : ℕ) (bytes : List ℕ) (kind : Mes
 
 -- how much of the body buffer a read uses and zeroes again
 abbrev pub body_used : ℕ → ℕ → ℕ → List ℕ → ℕ → ℕ
-body_used room size first bytes place = cond (is_segment_size size && nat_le size room) (body_read size first bytes place) 0
+body_used room size first bytes place =
+    if is_segment_size size && nat_le size room then body_read size first bytes place
+    else 0

@@ -73,7 +73,7 @@ impl Found {
     }
 }
 
-// Size and buffer are checked before anything is read.
+// Size and buffer are checked before anything is read. Apart from the public call, whose further promise has one return to be shown at.
 fn read_checked<R: ReadAt, B: BlobSource>(
     view: &R,
     source: &B,

@@ -71,6 +71,7 @@ impl From<TableFault> for Refusal {
 }
 
 impl Refusal {
+    // By `match`: a variant with a place has no `as`.
     pub fn number(self) -> u8
         ensures { result ≡ number_of self }
     {

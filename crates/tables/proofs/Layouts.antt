@@ -50,9 +50,6 @@ module _ {V : Type 0} where
   first_there [] e f = absurd (false≢true (sym (ap is_some f)))
   first_there (x ∷ es) e f = omega arith
 
-  pub same_kept : (t : SortedTable V) → Same t t
-  same_kept t = record { lender = refl; size = refl; blank = refl }
-
   -- a table t, and what an edit leaves of its slice
   module _ (t : SortedTable V) where
     pub used : length (contents t) ≡ t.len

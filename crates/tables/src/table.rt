@@ -6,6 +6,7 @@ ghost use Rattle.tables.specs.Entries.{rising, laid, entries_code};
 use crate::entry::Entry;
 
 // A finite map by key over a lent slice of entries: the first `len` are in use, in rising order of key, and the rest are blank.
+// A vector or a map would allocate, and no call may.
 #[derive(Drop)]
 pub struct SortedTable<'a, V: Copy> {
     pub(crate) entries: &'a mut [Entry<V>],

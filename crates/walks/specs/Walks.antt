@@ -5,7 +5,7 @@
 --   start_of ..            where the tail starts
 --   first_walk, last_walk  the two walks; the last is not made where the first met a fault
 --   walks ..               both
-use Rattle.std.specs.Prelude.{ℕ, ◌+◌, ◌*◌, ◌/◌, Bool, true, false, cond, List, [], ◌∷◌, Some, None, Option, ◌==◌, nat_lt}
+use Rattle.std.specs.Prelude.{ℕ, ◌+◌, ◌*◌, ◌/◌, Bool, true, false, if◌then◌else◌, List, [], ◌∷◌, Some, None, Option, ◌==◌, nat_lt}
 use Rattle.blobs.specs.declared.note.Note.{Note}
 use Rattle.scan.specs.Order.{Segment, top_mark}
 use Rattle.walks.specs.Walk.{Walked, walk}
@@ -36,7 +36,7 @@ tail size start ss = tail_from size start (since start ss)
 
 -- the first absent LSN itself is not past it
 unfoldable pub first_limit : Tail → Option ℕ
-first_limit t = cond t.gap (Some (t.absent + 1)) None
+first_limit t = if t.gap then Some (t.absent + 1) else None
 
 unfoldable pub last_limit : ℕ → Option ℕ → ℕ
 last_limit start None = start

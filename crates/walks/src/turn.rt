@@ -47,7 +47,7 @@ fn turn_at(limit: Option<Lsn>, last: bool, read: LogRead) -> Turn
     }
 }
 
-// `last` says that it is the last walk of a recovery. A fault of the read stays one.
+// `last` says that it is the last walk of a recovery: a flag, since one case alone asks for it. A fault of the read stays one.
 #[tactic(auto, unfolding(crate::specs::Walk::turn_of))]
 pub fn turn_of(
     limit: Option<Lsn>,
