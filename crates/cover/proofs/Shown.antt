@@ -1,12 +1,14 @@
 -- What a cover shows, and what a mark and a write change of it.
-use Rattle.std.proofs.Common.{◌≡◌, ℕ, ◌+◌, ◌-◌, ◌*◌, ◌/◌, ◌%◌, ◌<◌, ◌≤◌, max, cond, ◌&&◌, ◌≢◌, ◌⊎◌, nat_le, nat_lt, List, length, get_or, take, drop, set, replicate, Some, None, Option, sym, refl, ap, ◌∙◌, inl, inr, mul-le-mul_right, add-mul, one-mul, arith}
+use Rattle.std.proofs.Common.{◌≡◌, ℕ, ◌+◌, ◌-◌, ◌*◌, ◌/◌, ◌%◌, ◌<◌, ◌≤◌, max, cond, ◌&&◌, ◌≢◌, ◌⊎◌, nat_le, nat_lt, List, length, get_or, true, take, drop, set, replicate, Some, None, Option, sym, refl, ap, ◌∙◌, inl, inr, mul-le-mul_right, add-mul, one-mul, arith}
 use Rattle.std.proofs.lemmas.List.FromFn.{length-map-range_with_len, get_or-map-range_with_len}
 use Rattle.std.proofs.lemmas.List.{ext_get_or, get_or_past, places}
 use Rattle.std.proofs.lemmas.Bool.{cases_eq, cases_lt}
 use Rattle.std.proofs.lemmas.Bool.Decides.{nat_tests}
-use Rattle.device.proofs.Blocks.{in_block, block_of}
+use Rattle.device.proofs.Blocks.{in_block, block_of, fits_bounds}
 use Rattle.device.proofs.Written.{lays, length-laid}
-use Rattle.device.specs.Writes.{laid}
+use Rattle.device.specs.Writes.{laid, fits}
+use Rattle.layout.proofs.Powers.{sized as segment_sized}
+use Rattle.layout.specs.Sizes.{is_segment_size}
 use Rattle.cover.proofs.Entries.{entry_none, entry_holds, mark_named, mark_other}
 use Rattle.cover.specs.Entries.{entry_of}
 use Rattle.cover.specs.Shown.{block_bytes, seen, shown}
@@ -176,3 +178,26 @@ module _ (size : ℕ) (p : 0 < size) where
         let s = seen_new k in
         let z = zeros k (omega arith) in
         grind (arith, nat_tests)
+
+-- where a write of n bytes at `at` goes: entry i has its block. The code knows the size as z
+pub record Spot (size z capacity n at i room : ℕ) (entries : List (Option ℕ)) : Type 0 where
+  pub some : 0 < size
+  pub short : at % size + n ≤ size
+  pub below : at + n ≤ capacity
+  pub named : entry_of entries (Some (at / size)) ≡ Some i
+  pub begin : i * z + at % z ≡ i * size + at % size
+  pub within : i * size + size ≤ room
+
+pub spot : (size z capacity n at i room-of : ℕ) (entries : List (Option ℕ)) → z ≡ size → is_segment_size z ≡ true → fits capacity size at n ≡ true → entry_of entries (Some (at / z)) ≡ Some i
+    → length entries * size ≤ room-of → Spot size z capacity n at i room-of entries
+spot size z capacity n at i room-of entries same sized fit to l =
+    let p : 0 < size = let k = (segment_sized z sized).low in omega arith in
+    let named : entry_of entries (Some (at / size)) ≡ Some i = ap (λ x. entry_of entries (Some (at / x))) (sym same) ∙ to in
+    record {
+      some = p;
+      short = (fits_bounds capacity size at n p fit).0;
+      below = (fits_bounds capacity size at n p fit).1;
+      named = named;
+      begin = ap (λ x. i * x + at % x) same;
+      within = room size p (length entries) i room-of (entry_holds entries (Some (at / size)) i named).0 l;
+    }

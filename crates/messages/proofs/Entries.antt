@@ -1,13 +1,11 @@
 -- Entering a message: the place is an entry and lies in the view, or the read is short. Assumes nothing.
-use Rattle.std.proofs.Common.{◌≡◌, ℕ, ◌+◌, ◌-◌, ◌%◌, ◌^◌, ◌<◌, ◌≤◌, Bool, true, ◌&&◌, List, length, take, replicate, sym, ap, ◌∙◌, arith, Ok, ap₂, subst}
-use Rattle.std.proofs.lemmas.Bool.{cond-true}
+use Rattle.std.proofs.Common.{◌≡◌, ℕ, ◌+◌, ◌%◌, ◌^◌, ◌<◌, ◌≤◌, true, ◌&&◌, List, length, replicate, arith, Ok, ap₂, subst}
 use Rattle.std.proofs.lemmas.Bool.Decides.{nat_tests}
-use Rattle.codec.specs.Messages.{read_message_header}
 use Rattle.device.specs.Reads.{begins, filled, eof_reply}
 use Rattle.device.proofs.Replies.{eof_ok}
 use Rattle.layout.specs.Sizes.{is_segment_size}
 use Rattle.layout.proofs.Powers.{size-ends}
-use Rattle.messages.specs.Raw.{Raw, is_entry, ahead, raw_in, raw_at, body_in, body_read, cleared}
+use Rattle.messages.specs.Raw.{is_entry, starts, starts}
 use Rattle.messages.specs.Spots.{Entered}
 use Rattle.messages.proofs.Windows.{window_is}
 
@@ -23,7 +21,7 @@ roomy size p h = grind (arith, nat_tests)
 -- a read of the bytes ahead was answered at an entry, by the size's own number of bytes
 pub entered : (size n place first k : ℕ) (bytes w : List ℕ) → n ≡ size → is_segment_size n ≡ true → place < 2 ^ 64 → is_entry n (place % n) ≡ true
     → Ok k ≡ eof_reply first bytes place 128 → length w ≡ 128 → w ≡ filled first bytes place (replicate 128 0)
-    → ((is_entry size (place % size) && begins first bytes place) ≡ true) × Entered size place first bytes w
+    → (starts size first bytes place ≡ true) × Entered size place first bytes w
 entered size n place first k bytes w is z l e r wide f =
     let i : is_entry size (place % size) ≡ true = subst (λ m. is_entry m (place % m) ≡ true) is e in
     let b = (eof_ok first place 128 k bytes r).0 in
@@ -39,21 +37,3 @@ entered size n place first k bytes w is z l e r wide f =
         wide = wide;
       },
     )
-
-module _ (size number first place : ℕ) (bytes buf : List ℕ) where
-  abbrev test : Bool
-  test = is_entry size (place % size) && begins first bytes place
-
-  pub record Read (r : Raw) (after : List ℕ) : Type 0 where
-    pub value : r ≡ raw_at size number first bytes place
-    pub body : after ≡ cleared (body_read size first bytes place) buf
-
-  pub is_read : test ≡ true → (w : List ℕ) (r : Raw) (after : List ℕ) → w ≡ take 128 (ahead bytes (place - first))
-      → r ≡ raw_in size number (place % size) (first + length bytes - place) (ahead bytes (place - first)) (read_message_header w)
-      → after ≡ cleared (body_in size (place % size) (first + length bytes - place) (read_message_header w)) buf → Read r after
-  unfolding raw_at body_read
-  is_read e w r after v p q = record {
-    value = p ∙ ap (λ x. raw_in size number (place % size) (first + length bytes - place) (ahead bytes (place - first)) (read_message_header x)) v ∙ sym (cond-true _ _ _ e);
-    body = q ∙ ap (λ x. cleared (body_in size (place % size) (first + length bytes - place) (read_message_header x)) buf) v
-        ∙ ap (λ n. cleared n buf) (sym (cond-true test (body_in size (place % size) (first + length bytes - place) (read_message_header (take 128 (ahead bytes (place - first))))) 0 e));
-  }

@@ -1,5 +1,6 @@
 -- The bytes of a message, judged before its kind is looked at (docs/RECOVERY.md, "Reading a message"). Assumes nothing.
 --   is_entry size p       a message may begin at the progress p
+--   starts ..             a message may begin at a place of a view
 --   ahead bytes off       what a view has from an offset on, with zeros past its end
 --   reached have hl n     the body is in the 128 bytes read ahead, or the view has it
 --   decided ..            by checksum and segment number
@@ -24,6 +25,9 @@ Raw = Result Found NoMessage
 
 abbrev pub is_entry : ℕ → ℕ → Bool
 is_entry size p = nat_le 20 p && nat_le (p + 32) size
+
+abbrev pub starts : ℕ → ℕ → List ℕ → ℕ → Bool
+starts size first bytes place = is_entry size (place % size) && begins first bytes place
 
 unfoldable pub ahead : List ℕ → ℕ → List ℕ
 ahead bytes off = drop off bytes ++ replicate 128 0
@@ -54,7 +58,7 @@ raw_in size number p have w (Some q) = judged size number p have w q.0 (128 - le
 
 unfoldable pub raw_at : ℕ → ℕ → ℕ → List ℕ → ℕ → Raw
 raw_at size number first bytes place =
-    if is_entry size (place % size) && begins first bytes place then raw_in size number (place % size) (first + length bytes - place) (ahead bytes (place - first)) (read_message_header (take 128 (ahead bytes (place - first))))
+    if starts size first bytes place then raw_in size number (place % size) (first + length bytes - place) (ahead bytes (place - first)) (read_message_header (take 128 (ahead bytes (place - first))))
     else Err Short
 
 unfoldable pub body_needed : ℕ → ℕ → ℕ → MessageHeader → ℕ → ℕ
@@ -68,7 +72,7 @@ body_in size p have (Some q) = body_needed size p have q.0 (128 - length q.1)
 
 unfoldable pub body_read : ℕ → ℕ → List ℕ → ℕ → ℕ
 body_read size first bytes place =
-    if is_entry size (place % size) && begins first bytes place then body_in size (place % size) (first + length bytes - place) (read_message_header (take 128 (ahead bytes (place - first))))
+    if starts size first bytes place then body_in size (place % size) (first + length bytes - place) (read_message_header (take 128 (ahead bytes (place - first))))
     else 0
 
 -- a lent buffer whose first n bytes were used and zeroed again

@@ -1,9 +1,9 @@
 // The bytes of a message, judged before its kind is looked at.
-ghost use Rattle.std.specs.Prelude.{◌≡◌, ◌+◌, ◌-◌, ◌%◌, ◌≤◌, length, Ok, Err, if◌then◌else◌};
+ghost use Rattle.std.specs.Prelude.{◌≡◌, ◌+◌, ◌-◌, ◌%◌, ◌≤◌, true, false, length, MatchResult, Ok, Err, if◌then◌else◌};
 ghost use Rattle.device.specs.Reads.{inside, part};
 ghost use Rattle.messages.specs.declared.log_read.NoMessage.TheVariants.{Short};
 ghost use Rattle.messages.specs.Spots.{Entered};
-ghost use Rattle.messages.specs.Raw.{is_entry, ahead, word_in, decided, judged, raw_at, body_read, body_needed, cleared};
+ghost use Rattle.messages.specs.Raw.{is_entry, starts, ahead, word_in, decided, judged, raw_at, body_read, body_needed, cleared};
 
 use crate::log_read::{Found, NoMessage};
 use crate::spot::Spot;
@@ -107,12 +107,12 @@ impl<R: ReadAt> Spot<'_, R> {
         self.judge_long(body, h, header, self.place + hl as u64)
     }
 
-    // The message there.
-    #[tactic(auto, unfolding(crate::specs::Raw::raw_at, crate::specs::Raw::body_read))]
-    pub(crate) fn read(&self, body: &mut [u8]) -> Result<Found, NoMessage>
-        requires { self.now.size ≤ length body.old }
-        ensures value { result ≡ raw_at self.now.size self.now.number (R.ReadAt.first self.now.view.now) (R.ReadAt.bytes self.now.view.now) self.now.place }
-        ensures body { body.new ≡ cleared (body_read self.now.size (R.ReadAt.first self.now.view.now) (R.ReadAt.bytes self.now.view.now) self.now.place) body.old }
+    // The bytes read ahead there. Short where no message may begin, or outside of the view.
+    fn read_ahead(&self) -> Result<[u8; AHEAD], NoMessage>
+        ensures { MatchResult result
+            (λ w. (starts self.now.size (R.ReadAt.first self.now.view.now) (R.ReadAt.bytes self.now.view.now) self.now.place ≡ true)
+            × Entered self.now.size self.now.place (R.ReadAt.first self.now.view.now) (R.ReadAt.bytes self.now.view.now) w)
+            (λ e. (starts self.now.size (R.ReadAt.first self.now.view.now) (R.ReadAt.bytes self.now.view.now) self.now.place ≡ false) × (e ≡ Short)) }
     {
         let size = self.size.bytes();
         if !is_entry(size, self.place % size) {
@@ -120,6 +120,17 @@ impl<R: ReadAt> Spot<'_, R> {
         }
         let mut w = [0u8; AHEAD];
         self.view.pread_exact_or_eof(&mut w, self.place)?;
+        Ok(w)
+    }
+
+    // The message there.
+    #[tactic(auto, unfolding(crate::specs::Raw::raw_at, crate::specs::Raw::body_read))]
+    pub(crate) fn read(&self, body: &mut [u8]) -> Result<Found, NoMessage>
+        requires { self.now.size ≤ length body.old }
+        ensures value { result ≡ raw_at self.now.size self.now.number (R.ReadAt.first self.now.view.now) (R.ReadAt.bytes self.now.view.now) self.now.place }
+        ensures body { body.new ≡ cleared (body_read self.now.size (R.ReadAt.first self.now.view.now) (R.ReadAt.bytes self.now.view.now) self.now.place) body.old }
+    {
+        let w = self.read_ahead()?;
         let (h, rest) = MessageHeader::deserialize(&w)?;
         self.judge(body, &w, h, AHEAD.saturating_sub(rest.len()))
     }
