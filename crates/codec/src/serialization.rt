@@ -61,7 +61,7 @@ impl Serialize for u8 {
     }
 }
 
-// Four bytes, the lowest first.
+// Four bytes, the lowest first. One line a method, as for `u8` and `Word`: a width as const parameter would need a type besides.
 impl Serialize for u32 {
     ghost bytes = { octets 4 };
 

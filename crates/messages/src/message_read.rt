@@ -73,7 +73,7 @@ impl Found {
     }
 }
 
-// Size and buffer are checked before anything is read. Apart from the public call, whose further promise has one return to be shown at.
+// Size and buffer are checked before anything is read. Apart from `read_message`, so that its clause `written` is shown at one return.
 fn read_checked<R: ReadAt, B: BlobSource>(
     view: &R,
     source: &B,
@@ -106,6 +106,7 @@ fn read_checked<R: ReadAt, B: BlobSource>(
 // The message at `place` of a view, which must carry the segment number of `lsn`. The body buffer is lent; what is used of it is
 // zeroed again. Refused: a size that no segment has, a buffer shorter than a segment, a body that is not 8 bytes where the kind
 // wants that, a blob that is damaged or of another kind. A message that was written is the message that is read.
+// A struct of its parameters would be made for one call and taken apart at once.
 pub fn read_message<R: ReadAt, B: BlobSource>(
     view: &R,
     source: &B,

@@ -75,7 +75,8 @@ impl<R: ReadAt> Spot<'_, R> {
         found
     }
 
-    // By length and kind, then by what there is of the body.
+    // By length and kind, then by what there is of the body. The body buffer is lent, and at least a segment long.
+    // A struct of the window and where its header ends would be made and taken apart here alone.
     #[tactic(auto, unfolding(crate::specs::Raw::judged, crate::specs::Raw::body_needed))]
     fn judge(
         &self,

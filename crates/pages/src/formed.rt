@@ -50,10 +50,10 @@ fn are_sound(pages: &[PageState], fragments: &[Fragment], top: Lsn) -> bool
 {
     let mut rest = fragments;
     for (pid, page) in pages.iter().enumerate() {
-        match behind(pid as PageId, top, *page, rest) {
-            Some(others) => rest = others,
-            None => return false,
-        }
+        let Some(others) = behind(pid as PageId, top, *page, rest) else {
+            return false;
+        };
+        rest = others;
     }
     rest.is_empty()
 }
@@ -76,14 +76,14 @@ fn is_placed(size: SegmentSize, stable: Lsn, active: Option<LogOffset>) -> bool
 }
 
 impl Snapshot<'_> {
-    // With no stable LSN.
+    // Whether it holds nothing, as it must with no stable LSN.
     fn is_nothing(&self) -> bool
         ensures { result ≡ (not (is_some self.now.active_segment) && (length self.now.pages.now == 0 && length self.now.fragments.now == 0)) }
     {
         self.active_segment.is_none() && self.pages.is_empty() && self.fragments.is_empty()
     }
 
-    // With the stable LSN `stable`.
+    // Whether it is sound with the stable LSN `stable`.
     fn is_sound_at(&self, size: SegmentSize, stable: Lsn) -> bool
         ensures { result ≡ (nat_le stable (2 ^ 62) && (placed size stable self.now.active_segment && passes 0 stable self.now.pages.now self.now.fragments.now)) }
     {

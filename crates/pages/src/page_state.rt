@@ -2,7 +2,7 @@
 use codec::{Lsn, PageId};
 use messages::DiskPtr;
 
-// The LSN of a message, where its content stands, and how long the message is.
+// As in sled: the LSN of a message, where its content stands, and how long the message is.
 pub type Item = (Lsn, DiskPtr, u64);
 
 #[derive(Clone, Copy)]

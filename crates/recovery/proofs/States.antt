@@ -35,6 +35,7 @@ module _ {D B : Type 0} (notes : B → ℕ → Option Note) (stored : D → List
       next = record {
         turn = ap (λ y. todo y v.current v.rest.now) e ∙ t (rest_of notes stored v) ∙ ap (λ y. told_by r v.current (segment_of y) v.rest.now (rest_of notes stored v)) (sym e);
         sane = ok;
+        same = refl;
       };
       less = l;
     }
@@ -57,7 +58,7 @@ module _ {D B : Type 0} (notes : B → ℕ → Option Note) (stored : D → List
       gone : todo (Some h) v.current v.rest.now ≡ todo None v.current v.rest.now → Turned notes stored buffer body v (out v) (Ok (Continue tt))
       unfolding told_by
       gone t = record {
-        next = record { turn = as-held ∙ t; sane = record { sized = ok.sized; long = ok.long; room = ok.room; segments = ok.segments; held = tt } };
+        next = record { turn = as-held ∙ t; sane = record { sized = ok.sized; long = ok.long; room = ok.room; segments = ok.segments; held = tt }; same = refl };
         less = omega (arith, spare_is);
       }
 
@@ -103,6 +104,7 @@ module _ {D B : Type 0} (notes : B → ℕ → Option Note) (stored : D → List
                   turn = as-held
                       ∙ t-yield (notes v.course.source.now) v.course.size (stored v.course.device.now) v.course.limit v.course.last h.segment holds.small.aligned h.have h.progress v.current v.rest.now f u r (h.progress + r.len) (Some (h.segment.key + (h.progress + r.len))) t refl;
                   sane = sane_passed r.len sp.within;
+                  same = refl;
                 };
                 less = tt;
               }
@@ -116,6 +118,7 @@ module _ {D B : Type 0} (notes : B → ℕ → Option Note) (stored : D → List
                   turn = as-held
                       ∙ t-pass (notes v.course.source.now) v.course.size (stored v.course.device.now) v.course.limit v.course.last h.segment holds.small.aligned h.have h.progress v.current v.rest.now f u n (h.progress + n) (Some (h.segment.key + (h.progress + n))) t refl;
                   sane = sane_passed n sp.within;
+                  same = refl;
                 };
                 less = omega (arith, spare_is, sp.some, sp.within);
               }
@@ -176,6 +179,7 @@ module _ {D B : Type 0} (notes : B → ℕ → Option Note) (stored : D → List
               segments = λ k d h. smalls (suc k) d (omega arith);
               held = record { current = refl; within = omega (arith, (sized v.course.size ok.sized).low); small = e-small; have = w; bytes = b };
             };
+            same = refl;
           };
           less = let z : spare v.course.size v.held ≡ 0 = ap (spare v.course.size) e in omega (arith, ap length i, (sized v.course.size ok.sized).high);
         }
@@ -186,4 +190,5 @@ module _ {D B : Type 0} (notes : B → ℕ → Option Note) (stored : D → List
   to_more a b n m u v w r g t e l = record {
     left = g.left ∙ t.next.turn ∙ ap (λ x. told_by x w.current (segment_of w.held) w.rest.now (rest_of notes stored w)) e;
     sane = subst (λ k. Sane notes stored b k w) (sym l) t.next.sane;
+    same = t.next.same ∙ g.same;
   }

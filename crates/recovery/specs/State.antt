@@ -79,10 +79,12 @@ module _ {D B : Type 0} where
     pub record Going (buffer : List ℕ) (body : ℕ) (v w : LogIter D B) : Type 0 where
       pub left : rest_of v ≡ rest_of w
       pub sane : Sane buffer body w
+      pub same : w.course ≡ v.course
 
     pub record Next (buffer : List ℕ) (body : ℕ) (v w : LogIter D B) (r : Step) : Type 0 where
       pub turn : rest_of v ≡ told_by r w.current (segment_of w.held) w.rest.now (rest_of w)
       pub sane : Sane buffer body w
+      pub same : w.course ≡ v.course
 
     pub record Turned (buffer : List ℕ) (body : ℕ) (v w : LogIter D B) (r : Step) : Type 0 where
       pub next : Next buffer body v w r

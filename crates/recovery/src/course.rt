@@ -21,11 +21,11 @@ pub(crate) struct Course<'a, D, B> {
     pub(crate) size: SegmentSize,
     // LSNs from here on are not walked.
     pub(crate) limit: Option<Lsn>,
-    // Whether it is the last walk of a recovery.
+    // Whether it is the last walk of a recovery: a flag, since one case of a turn alone asks for it.
     pub(crate) last: bool,
 }
 
-// A segment at hand: how many of its bytes stand in the buffer, and how far they are read.
+// A segment at hand: how many of its bytes stand in the lent buffer, and how far they are read.
 #[derive(Clone, Copy)]
 pub(crate) struct Held {
     pub(crate) segment: Segment,

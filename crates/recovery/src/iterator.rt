@@ -11,7 +11,8 @@ use refusals::Refusal;
 use std::ops::ControlFlow;
 use walks::{Turn, past, turn_of};
 
-// A walk, and where it is. Its buffers are lent to each call: in a field they could not be lent on, one to read and one to write.
+// A walk, and where it is. Its buffers are lent to each call: that one field is read while another is written, behind one `&mut`,
+// the check does not cover, neither by the fields, nor by a reborrow, nor by a pattern.
 #[derive(Drop)]
 pub(crate) struct LogIter<'a, D, B> {
     pub(crate) course: Course<'a, D, B>,

@@ -23,7 +23,7 @@ fn header_at<R: ReadAt>(view: &R, place: u64) -> [u8; SEG_HEADER_LEN]
     header
 }
 
-// The header at a place; what its mark counts.
+// The header at a place; what its mark counts. What it takes meets in one call alone.
 fn visit<D: Device>(
     device: &D,
     order: &mut SortedTable<LogOffset>,

@@ -2,7 +2,7 @@
 --     contents  the map: its entries in use, in rising order of key
 --     lent      what its slice holds
 --     capacity  how many entries its slice has
---     Same      it lies over the same slice as before, with the same blank value
+--     Same      it lies over the same slice as before, with the same blank value: a relation of two tables, so no fact of the type
 -- Each table keeps `within`, `ordered` and `clean`: its slice holds the contents, in rising order, and past them blank entries.
 -- Assumes nothing.
 use Rattle.std.specs.Prelude.{◌≡◌, ℕ, List, length, take}
