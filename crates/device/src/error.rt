@@ -16,7 +16,7 @@ pub enum DeviceError {
 }
 
 impl DeviceError {
-    // By name: `error.number()` says more than `u8::from(error)`.
+    // A method, since its name says more than `u8::from`.
     pub fn number(self) -> u8
         ensures { result ≡ device_number self }
     {

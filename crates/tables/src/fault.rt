@@ -9,7 +9,7 @@ pub enum TableFault {
 }
 
 impl TableFault {
-    // By name: `fault.number()` says more than `u8::from(fault)`.
+    // A method, since its name says more than `u8::from`.
     pub fn number(self) -> u8
         ensures { result ≡ number self }
     {
