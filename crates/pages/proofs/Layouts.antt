@@ -118,3 +118,5 @@ laid_out-nested i (Present base n ∷ ss) fs e =
 
 pub fragments-nested : (i : ℕ) (ss : List PageState) (fs : List Fragment) → tidy i ss fs ≡ true → fragments (nested ss fs) ≡ length fs
 fragments-nested i ss fs e = sym (length-laid_out i (nested ss fs)) ∙ ap length (laid_out-nested i ss fs e)
+
+pub ruleset fragments_counted = (fragments-nested, length-nested)

@@ -4,6 +4,7 @@ use Rattle.std.specs.List.{All}
 use Rattle.std.specs.declared.ops.ControlFlow.TheVariants.{Continue, Break}
 use Rattle.blobs.specs.declared.note.Note.{Note}
 use Rattle.layout.proofs.Powers.{sized}
+use Rattle.layout.specs.Sizes.{is_segment_size}
 use Rattle.messages.proofs.Spans.{Span}
 use Rattle.messages.specs.Raw.{is_entry}
 use Rattle.messages.specs.declared.log_read.Record.{Record}
@@ -58,13 +59,12 @@ module _ {D B : Type 0} (notes : B → ℕ → Option Note) (stored : D → List
       gone : todo (Some h) v.current v.rest.now ≡ todo None v.current v.rest.now → Turned notes stored buffer body v (out v) (Ok (Continue tt))
       unfolding told_by
       gone t = record {
-        next = record { turn = as-held ∙ t; sane = record { sized = ok.sized; long = ok.long; room = ok.room; segments = ok.segments; held = tt }; same = refl };
+        next = record { turn = as-held ∙ t; sane = record { long = ok.long; room = ok.room; segments = ok.segments; held = tt }; same = refl };
         less = omega (arith, spare_is);
       }
 
       sane_passed : (n : ℕ) → h.progress + n ≤ v.course.size → Sane notes stored buffer body (passed v h n)
       sane_passed n l = record {
-        sized = ok.sized;
         long = ok.long;
         room = ok.room;
         segments = ok.segments;
@@ -80,7 +80,7 @@ module _ {D B : Type 0} (notes : B → ℕ → Option Note) (stored : D → List
             done (Some h) (Ok (Break None)) tt e
             (λ w. t-past (notes v.course.source.now) v.course.size (stored v.course.device.now) v.course.limit v.course.last h.segment holds.small.aligned h.have h.progress v.current v.rest.now w f u holds.current)
 
-        module _ (u : past (h.segment.key + h.progress) v.course.limit ≡ false) where
+        module _ (z : is_segment_size v.course.size ≡ true) (u : past (h.segment.key + h.progress) v.course.limit ≡ false) where
           spans : Spans v.course.size h.progress turn
           spans =
               turn-spans (notes v.course.source.now) v.course.size (stored v.course.device.now) v.course.limit v.course.last h.segment holds.small.aligned h.progress
@@ -88,7 +88,7 @@ module _ {D B : Type 0} (notes : B → ℕ → Option Note) (stored : D → List
 
           -- the sums stay within 64 bits
           fits : (n : ℕ) → Span v.course.size h.progress n → (h.progress + n < 2 ^ 64) × (h.segment.key + (h.progress + n) < 2 ^ 64)
-          fits n sp = (omega (arith, sp.within, (sized v.course.size ok.sized).high), omega (arith, sp.within, holds.small.lsn))
+          fits n sp = (omega (arith, sp.within, (sized v.course.size z).high), omega (arith, sp.within, holds.small.lsn))
 
           pub yield-fits : (r : Record) → turn ≡ Ok (Yield r) → (h.progress + r.len < 2 ^ 64) × (h.segment.key + (h.progress + r.len) < 2 ^ 64)
           yield-fits r t = fits r.len (subst (Spans v.course.size h.progress) t spans)
@@ -165,23 +165,22 @@ module _ {D B : Type 0} (notes : B → ℕ → Option Note) (stored : D → List
         pub e-small : Small v.course.size s
         e-small = smalls 0 s (omega arith)
 
-        pub e-take : (now : List ℕ) (n : ℕ) → past s.key v.course.limit ≡ false → length now ≡ length buffer → n ≤ length now
+        pub e-take : (now : List ℕ) (n : ℕ) → is_segment_size v.course.size ≡ true → past s.key v.course.limit ≡ false → length now ≡ length buffer → n ≤ length now
             → take n now ≡ segment_bytes v.course.size (stored v.course.device.now) s.value → Turned notes stored now body v (taken s others n) (Ok (Continue tt))
         unfolding told_by
-        e-take now n u l w b = record {
+        e-take now n z u l w b = record {
           next = record {
             turn = ap (λ y. todo y v.current v.rest.now) e ∙ ap (todo None v.current) i
                 ∙ w-take (notes v.course.source.now) v.course.size (stored v.course.device.now) v.course.limit v.course.last v.current s others.now n (Some (s.key + 20)) u;
             sane = record {
-              sized = ok.sized;
               long = omega (arith, ok.long);
               room = ok.room;
               segments = λ k d h. smalls (suc k) d (omega arith);
-              held = record { current = refl; within = omega (arith, (sized v.course.size ok.sized).low); small = e-small; have = w; bytes = b };
+              held = record { current = refl; within = omega (arith, (sized v.course.size z).low); small = e-small; have = w; bytes = b };
             };
             same = refl;
           };
-          less = let z : spare v.course.size v.held ≡ 0 = ap (spare v.course.size) e in omega (arith, ap length i, (sized v.course.size ok.sized).high);
+          less = let none : spare v.course.size v.held ≡ 0 = ap (spare v.course.size) e in omega (arith, ap length i, (sized v.course.size z).high);
         }
 
   -- ---- turns one after another

@@ -1,5 +1,5 @@
 -- The tail of a log, segment by segment. Assumes nothing.
-use Rattle.std.proofs.Common.{◌≡◌, ℕ, zero, suc, ◌+◌, ◌<◌, ◌≤◌, ltb, true, false, List, [], ◌∷◌, ◌++◌, length, get_or, take, drop, sym, refl, ap, ◌∙◌, append_assoc, arith}
+use Rattle.std.proofs.Common.{◌≡◌, ℕ, zero, suc, ◌+◌, ◌<◌, ◌≤◌, ltb, true, false, List, [], ◌∷◌, ◌++◌, length, get_or, take, drop, ◌^◌, sym, refl, ap, ◌∙◌, append_assoc, arith}
 use Rattle.std.proofs.lemmas.List.{drop_more, drop_all, take_more, take_all, append-nil}
 use Rattle.std.proofs.lemmas.Bool.{ne_eqb}
 use Rattle.std.proofs.lemmas.Bool.Decides.{nat_tests}
@@ -8,6 +8,7 @@ use Rattle.tables.proofs.Ranks.{below_all}
 use Rattle.tables.proofs.Steps.{rising_parts}
 use Rattle.tables.specs.Entries.{rising}
 use Rattle.scan.specs.Order.{Segment}
+use Rattle.recovery.specs.Small.{Small}
 use Rattle.walks.specs.Walks.{since, Tail, longer, tail_from}
 
 abbrev joined : List Segment → Tail → Tail
@@ -21,15 +22,16 @@ module _ (size start : ℕ) (ss : List Segment) where
   -- the first n segments follow each other, up to the LSN `absent`
   pub record Following (n absent : ℕ) : Type 0 where
     pub left : tail_from size start ss ≡ joined (take n ss) (tail_from size absent (drop n ss))
+    pub small : absent ≤ 2 ^ 62
 
-  pub following_none : Following 0 start
-  following_none = record { left = refl }
+  pub following_none : start ≤ 2 ^ 62 → Following 0 start
+  following_none l = record { left = refl; small = l }
 
   module _ (n absent : ℕ) (f : Following n absent) where
     module _ (d : Segment) (h : n < length ss) where
-      pub following_more : (m : ℕ) → m ≡ size → (get_or ss n d).key ≡ absent → Following (n + 1) (absent + m)
+      pub following_more : (m : ℕ) → m ≡ size → Small size (get_or ss n d) → (get_or ss n d).key ≡ absent → Following (n + 1) (absent + m)
       unfolding tail_from
-      following_more m i k =
+      following_more m i small k =
           let s = get_or ss n d in
           let t = tail_from size (absent + size) (drop (n + 1) ss) in
           let q : tail_from size absent (s ∷ drop (n + 1) ss) ≡ longer s t = grind (arith, nat_tests) in
@@ -37,6 +39,7 @@ module _ (size start : ℕ) (ss : List Segment) where
             left = f.left ∙ ap (λ (l : List Segment). joined (take n ss) (tail_from size absent l)) (drop_more ss n d h)
                 ∙ ap (joined (take n ss)) q ∙ joined_more (take n ss) s t ∙ ap (λ (l : List Segment). joined l t) (sym (take_more ss n d h))
                 ∙ ap (λ k. joined (take (n + 1) ss) (tail_from size (absent + k) (drop (n + 1) ss))) (sym i);
+            small = omega (arith, small.lsn);
           }
 
       pub following-gap : ((get_or ss n d).key ≡ absent → ⊥) → record { segments = take n ss; absent = absent; gap = true } ≡ tail_from size start ss

@@ -5,13 +5,12 @@
 --   Sane             what holds between turns
 --   Turned           what a turn ensures
 --   Next             what a call of `next` ensures
-use Rattle.std.specs.Prelude.{◌≡◌, ℕ, ◌+◌, ◌-◌, ◌*◌, ◌<◌, ◌≤◌, Bool, true, List, [], ◌∷◌, length, take, Some, None, Ok, Err, Option, Result}
+use Rattle.std.specs.Prelude.{◌≡◌, ℕ, ◌+◌, ◌-◌, ◌*◌, ◌<◌, ◌≤◌, Bool, List, [], ◌∷◌, length, take, Some, None, Ok, Err, Option, Result}
 use Rattle.std.specs.List.{All}
 use Rattle.std.specs.Option.{option_map}
 use Rattle.std.specs.declared.ops.ControlFlow.{ControlFlow}
 use Rattle.std.specs.declared.ops.ControlFlow.TheVariants.{Continue, Break}
 use Rattle.blobs.specs.declared.note.Note.{Note}
-use Rattle.layout.specs.Sizes.{is_segment_size}
 use Rattle.messages.specs.declared.log_read.Record.{Record}
 use Rattle.refusals.specs.declared.refusal.Refusal.{Refusal}
 use Rattle.scan.specs.Order.{Segment}
@@ -69,7 +68,6 @@ module _ {D B : Type 0} where
 
     -- with a buffer for a segment's bytes, and one of the length `body` for a body
     pub record Sane (buffer : List ℕ) (body : ℕ) (w : LogIter D B) : Type 0 where
-      pub sized : is_segment_size w.course.size ≡ true
       pub long : w.course.size ≤ length buffer
       pub room : w.course.size ≤ body
       pub segments : All (Small w.course.size) w.rest.now

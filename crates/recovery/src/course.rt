@@ -1,5 +1,6 @@
 // What a walk reads, and how far it goes.
-ghost use Rattle.std.specs.Prelude.{◌≡◌, ◌≤◌, length, take};
+ghost use Rattle.std.specs.Prelude.{◌≡◌, ◌≤◌, true, length, take};
+ghost use Rattle.layout.specs.Sizes.{is_segment_size};
 ghost use Rattle.walks.specs.Walk.{segment_bytes, read_in};
 ghost use Rattle.recovery.specs.Small.{Small};
 
@@ -39,6 +40,7 @@ impl<D: Device, B: BlobSource> Course<'_, D, B> {
         requires { self.now.size ≤ length buffer.old }
         ensures bytes { take result buffer.new ≡ segment_bytes self.now.size (D.ReadAt.bytes self.now.device.now) place }
         ensures within { result ≤ length buffer.new }
+        ensures sized { is_segment_size self.now.size ≡ true }
     {
         let size = self.size.bytes() as usize;
         self.device

@@ -14,15 +14,15 @@ use walks::{Turn, past, turn_of};
 // A walk, and where it is. Its buffers are lent to each call: that one field is read while another is written, behind one `&mut`,
 // the check does not cover, neither by the fields, nor by a reborrow, nor by a pattern.
 #[derive(Drop)]
-pub(crate) struct LogIter<'a, D, B> {
+pub(crate) struct LogIter<'a, 's, D, B> {
     pub(crate) course: Course<'a, D, B>,
     // The segments that are still to be taken.
-    pub(crate) rest: &'a [Segment],
+    pub(crate) rest: &'s [Segment],
     pub(crate) held: Option<Held>,
     pub(crate) current: Option<Lsn>,
 }
 
-impl<D: Device, B: BlobSource> LogIter<'_, D, B> {
+impl<D: Device, B: BlobSource> LogIter<'_, '_, D, B> {
     // Takes the next segment, or ends.
     fn enter(&mut self, buffer: &mut [u8], body: usize) -> ControlFlow<Option<Record>, ()>
         requires sane { Sane B.BlobSource.notes D.ReadAt.bytes buffer.old body self.old }

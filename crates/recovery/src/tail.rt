@@ -1,4 +1,5 @@
 // The tail of a log: the segments that follow each other from a start on.
+ghost use Rattle.std.specs.Prelude.{◌^◌, ◌≤◌};
 ghost use Rattle.std.specs.List.{All};
 ghost use Rattle.tables.specs.Views.{contents};
 ghost use Rattle.recovery.specs.Small.{Small};
@@ -11,17 +12,18 @@ use layout::SegmentSize;
 use messages::LogOffset;
 use tables::SortedTable;
 
-// Its segments, and the first absent LSN, where further segments lie behind it.
+// Its segments, and where further ones lie behind a gap, the LSN past the first absent one: a walk ends there.
 #[derive(Clone, Copy)]
 pub(crate) struct Tail<'a> {
     pub(crate) segments: &'a [Segment],
-    pub(crate) gap: Option<Lsn>,
+    pub(crate) limit: Option<Lsn>,
 }
 
 // The segments that follow each other from `start` on.
-#[tactic(auto, using(crate::proofs::Tails::following))]
+#[tactic(auto, using(crate::proofs::Tails::following), unfolding(walks::specs::Walks::first_limit))]
 fn follow(segments: &[Segment], size: SegmentSize, start: Lsn) -> Tail<'_>
-    requires { All (Small size) segments.now }
+    requires start { start ≤ 2 ^ 62 }
+    requires segments { All (Small size) segments.now }
     ensures { TailIs result (tail_from size start segments.now) }
 {
     let mut absent = start;
@@ -29,14 +31,14 @@ fn follow(segments: &[Segment], size: SegmentSize, start: Lsn) -> Tail<'_>
         if s.key != absent {
             return Tail {
                 segments: &segments[..n],
-                gap: Some(absent),
+                limit: Some(absent + 1),
             };
         }
         absent += size.bytes();
     }
     Tail {
         segments,
-        gap: None,
+        limit: None,
     }
 }
 
@@ -45,7 +47,8 @@ pub(crate) fn find_tail<'a>(
     size: SegmentSize,
     start: Lsn,
 ) -> Tail<'a>
-    requires { All (Small size) (contents order.now) }
+    requires start { start ≤ 2 ^ 62 }
+    requires segments { All (Small size) (contents order.now) }
     ensures { TailIs result (tail size start (contents order.now)) }
 {
     let order = order.entries();

@@ -25,13 +25,13 @@ use Rattle.walks.specs.Walk.{past, bounds, turn_of, Exit, released, stopped, fai
 use Rattle.walks.specs.declared.turn.Turn.{Turn}
 use Rattle.walks.specs.declared.turn.Turn.TheVariants.{Yield, Pass, Release, Stop}
 
--- ---- a walk goes on behind a message by the message's length
-abbrev Long : Found → Result Turn Refusal → Type 0
-Long f (Ok (Yield r)) = r.len ≡ f.len
-Long f (Ok (Pass n)) = n ≡ f.len
-Long f (Ok Release) = Unit {0}
-Long f (Ok Stop) = Unit {0}
-Long f (Err e) = Unit {0}
+-- ---- a walk goes on behind a message by the message's length, and yields what stands at the LSN that it is at
+abbrev Long : ℕ → Found → Result Turn Refusal → Type 0
+Long lsn f (Ok (Yield r)) = (r.len ≡ f.len) × (r.lsn ≡ lsn)
+Long lsn f (Ok (Pass n)) = n ≡ f.len
+Long lsn f (Ok Release) = Unit {0}
+Long lsn f (Ok Stop) = Unit {0}
+Long lsn f (Err e) = Unit {0}
 
 abbrev pub Spans : ℕ → ℕ → Result Turn Refusal → Type 0
 Spans size p (Ok (Yield r)) = Span size p r.len
@@ -40,45 +40,65 @@ Spans size p (Ok Release) = Unit {0}
 Spans size p (Ok Stop) = Unit {0}
 Spans size p (Err e) = Unit {0}
 
+abbrev pub At : ℕ → Result Turn Refusal → Type 0
+At lsn (Ok (Yield r)) = r.lsn ≡ lsn
+At lsn (Ok (Pass n)) = Unit {0}
+At lsn (Ok Release) = Unit {0}
+At lsn (Ok Stop) = Unit {0}
+At lsn (Err e) = Unit {0}
+
 module _ (notes : ℕ → Option Note) (limit : Option ℕ) (last : Bool) where
-  note_long : (place lsn : ℕ) (f : Found) (kind : LogKind) (pointer : ℕ) (o : Option Note) → Long f (turn_of limit last (note_told place lsn f kind pointer o))
+  note_long : (place lsn : ℕ) (f : Found) (kind : LogKind) (pointer : ℕ) (o : Option Note) → Long lsn f (turn_of limit last (note_told place lsn f kind pointer o))
   unfolding turn_of
   note_long place lsn f kind pointer None = refl
   note_long place lsn f kind pointer (Some note) =
-      cond_both (note.sound && eqb note.kind (kind_number f.kind)) (Ok (Yielded (record_of f kind lsn (Blob place pointer)))) (Err (BadBlob place)) (λ x. Long f (turn_of limit last x)) (λ t. refl) (λ t. tt)
+      cond_both (note.sound && eqb note.kind (kind_number f.kind)) (Ok (Yielded (record_of f kind lsn (Blob place pointer)))) (Err (BadBlob place)) (λ x. Long lsn f (turn_of limit last x)) (λ t. (refl, refl)) (λ t. tt)
 
-  blob_long : (place lsn : ℕ) (f : Found) (kind : LogKind) (o : Option Word) → Long f (turn_of limit last (blob_told notes place lsn f kind o))
+  blob_long : (place lsn : ℕ) (f : Found) (kind : LogKind) (o : Option Word) → Long lsn f (turn_of limit last (blob_told notes place lsn f kind o))
   unfolding turn_of
   blob_long place lsn f kind None = tt
   blob_long place lsn f kind (Some w) = note_long place lsn f kind w.bits (notes w.bits)
 
-  manifest_long : (place : ℕ) (f : Found) (o : Option Word) → Long f (turn_of limit last (manifest_told place f o))
+  manifest_long : (place lsn : ℕ) (f : Found) (o : Option Word) → Long lsn f (turn_of limit last (manifest_told place f o))
   unfolding turn_of
-  manifest_long place f None = tt
-  manifest_long place f (Some w) = cond_both (bounds w limit) Stop (Pass f.len) (λ t. Long f (Ok t)) (λ t. tt) (λ t. refl)
+  manifest_long place lsn f None = tt
+  manifest_long place lsn f (Some w) = cond_both (bounds w limit) Stop (Pass f.len) (λ t. Long lsn f (Ok t)) (λ t. tt) (λ t. refl)
 
-  told_long : (place lsn : ℕ) (f : Found) (m : Meaning) → Long f (turn_of limit last (told notes place lsn f m))
+  told_long : (place lsn : ℕ) (f : Found) (m : Meaning) → Long lsn f (turn_of limit last (told notes place lsn f m))
   unfolding turn_of
-  told_long place lsn f NoMessage = cond_both last Release Stop (λ t. Long f (Ok t)) (λ t. tt) (λ t. tt)
+  told_long place lsn f NoMessage = cond_both last Release Stop (λ t. Long lsn f (Ok t)) (λ t. tt) (λ t. tt)
   told_long place lsn f Passed = refl
   told_long place lsn f Padding = tt
-  told_long place lsn f Manifest = manifest_long place f f.word
-  told_long place lsn f (Records kind InMessage) = refl
+  told_long place lsn f Manifest = manifest_long place lsn f f.word
+  told_long place lsn f (Records kind InMessage) = (refl, refl)
   told_long place lsn f (Records kind InFile) = blob_long place lsn f kind f.word
 
-  long_span : (size p : ℕ) (f : Found) (t : Result Turn Refusal) → Span size p f.len → Long f t → Spans size p t
-  long_span size p f (Ok (Yield r)) s l = record { some = omega (arith, s.some); within = omega (arith, s.within) }
-  long_span size p f (Ok (Pass n)) s l = record { some = omega (arith, s.some); within = omega (arith, s.within) }
-  long_span size p f (Ok Release) s l = tt
-  long_span size p f (Ok Stop) s l = tt
-  long_span size p f (Err e) s l = tt
+  long_span : (size p lsn : ℕ) (f : Found) (t : Result Turn Refusal) → Span size p f.len → Long lsn f t → Spans size p t
+  long_span size p lsn f (Ok (Yield r)) s l = record { some = omega (arith, s.some, l.0); within = omega (arith, s.within, l.0) }
+  long_span size p lsn f (Ok (Pass n)) s l = record { some = omega (arith, s.some); within = omega (arith, s.within) }
+  long_span size p lsn f (Ok Release) s l = tt
+  long_span size p lsn f (Ok Stop) s l = tt
+  long_span size p lsn f (Err e) s l = tt
 
   raw-spans : (size number first place lsn : ℕ) (bytes : List ℕ) (x : Raw) → raw_at size number first bytes place ≡ x → Spans size (place % size) (turn_of limit last (understood notes place lsn x))
   unfolding turn_of
   raw-spans size number first place lsn bytes (Ok f) e =
-      long_span size (place % size) f (turn_of limit last (told notes place lsn f (meant f.kind))) (raw_span size number first place bytes f e) (told_long place lsn f (meant f.kind))
+      long_span size (place % size) lsn f (turn_of limit last (told notes place lsn f (meant f.kind))) (raw_span size number first place bytes f e) (told_long place lsn f (meant f.kind))
   raw-spans size number first place lsn bytes (Err Damaged) e = cond_both last Release Stop (λ t. Spans size (place % size) (Ok t)) (λ t. tt) (λ t. tt)
   raw-spans size number first place lsn bytes (Err Ended) e = tt
+
+  long_at : (lsn : ℕ) (f : Found) (t : Result Turn Refusal) → Long lsn f t → At lsn t
+  long_at lsn f (Ok (Yield r)) l = l.1
+  long_at lsn f (Ok (Pass n)) l = tt
+  long_at lsn f (Ok Release) l = tt
+  long_at lsn f (Ok Stop) l = tt
+  long_at lsn f (Err e) l = tt
+
+  understood_at : (place lsn : ℕ) (x : Raw) → At lsn (turn_of limit last (understood notes place lsn x))
+  unfolding turn_of
+  understood_at place lsn (Ok f) = long_at lsn f (turn_of limit last (told notes place lsn f (meant f.kind))) (told_long place lsn f (meant f.kind))
+  understood_at place lsn (Err Damaged) = cond_both last Release Stop (λ t. At lsn (Ok t)) (λ t. tt) (λ t. tt)
+  understood_at place lsn (Err Ended) = tt
 
 -- a place of a segment has the progress that was added
 progress_is : (size value p : ℕ) → value % size ≡ 0 → p < size → (value + p) % size ≡ p
@@ -121,6 +141,10 @@ module _ (notes : ℕ → Option Note) (size : ℕ) (dev : List ℕ) (limit : Op
   turn-spans p h =
       subst (λ q. Spans size q (turn_at p)) (progress_is size s.value p aligned h)
       (raw-spans notes limit last size ((s.key + p) / size) s.value (s.value + p) (s.key + p) (segment_bytes size dev s.value) (raw_at size ((s.key + p) / size) s.value (segment_bytes size dev s.value) (s.value + p)) refl)
+
+  pub turn-at : (p : ℕ) → At (s.key + p) (turn_at p)
+  unfolding read_in
+  turn-at p = understood_at notes limit last (s.value + p) (s.key + p) (raw_at size ((s.key + p) / size) s.value (segment_bytes size dev s.value) (s.value + p))
 
   no-entry : (p : ℕ) → size ≤ p → is_entry size p ≡ false
   no-entry p h = grind (arith, nat_tests)

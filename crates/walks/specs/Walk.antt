@@ -8,6 +8,7 @@
 --   follow p t on           what a turn at the progress p leads to, where `on` walks on from a progress
 --   in_segment ..           the walk in one segment from a progress on; `fuel` bounds its messages
 --   Walked                  what a walk came to
+--   with_held o ss          the segment held, if any, and others
 --   settled s ss on x       what follows a segment that was left by x, where `on` walks the segments behind it
 --   walk ..                 the walk over segments, from a current LSN
 use Rattle.std.specs.Prelude.{ℕ, zero, suc, ◌+◌, ◌/◌, Bool, true, false, if◌then◌else◌, not, ◌&&◌, List, [], ◌∷◌, ◌++◌, take, drop, Some, None, Ok, Err, Option, Result, nat_le}
@@ -65,6 +66,10 @@ pub record Walked : Type 0 where
 
 unfoldable pub more : List Record → Walked → Walked
 more rs w = record { records = rs ++ w.records; current = w.current; held = w.held; left = w.left; fault = w.fault }
+
+abbrev pub with_held : Option Segment → List Segment → List Segment
+with_held None ss = ss
+with_held (Some s) ss = s ∷ ss
 
 unfoldable pub settled : Segment → List Segment → (ℕ → Walked) → List Record × Exit → Walked
 settled s ss on x =

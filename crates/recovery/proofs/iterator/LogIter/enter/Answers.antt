@@ -12,4 +12,4 @@ returns-then-past g c =
 pub returns : goal.returns
 returns g c =
     e-take g.B.BlobSource.notes g.D.ReadAt.bytes c.args.buffer.now c.args.body c.args.self.now c.requires.sane c.requires.none c.in-Some.s.now c.in-Some.others c.in-Some.ensures.cases.0
-    c.load-have.new.buffer c.load-have.result (sym c.if-past.ensures) c.load-have.auto.buffer c.load-have.ensures.within c.load-have.ensures.bytes
+    c.load-have.new.buffer c.load-have.result c.load-have.ensures.sized (sym c.if-past.ensures) c.load-have.auto.buffer c.load-have.ensures.within c.load-have.ensures.bytes
