@@ -1,5 +1,5 @@
 -- What each part of a recover makes of the whole. Assumes nothing.
-use Rattle.std.proofs.Common.{◌≡◌, ℕ, ◌*◌, ◌/◌, ◌^◌, ◌<◌, ◌≤◌, Bool, true, List, [], ◌∷◌, length, OnOk, Some, None, Ok, Err, Option, Result, sym, refl, ap, ap₂, ◌∙◌, subst, mul-le-mul_right, arith}
+use Rattle.std.proofs.Common.{◌≡◌, ℕ, ◌*◌, ◌/◌, ◌%◌, ◌^◌, ◌<◌, ◌≤◌, Bool, true, List, [], ◌∷◌, length, drop, OnOk, Some, None, Ok, Err, Option, Result, sym, refl, ap, ap₂, ◌∙◌, subst, mul-le-mul_right, arith}
 use Rattle.std.proofs.lemmas.Bool.Decides.{nat_tests}
 use Rattle.std.specs.List.{All, AllByRecursion}
 use Rattle.std.specs.Option.{unwrap_or}
@@ -13,20 +13,23 @@ use Rattle.pages.specs.Shown.{tidy, nested}
 use Rattle.pages.specs.Snapshots.{snap_of, well_formed, sound_pages, no_pages, bare}
 use Rattle.pages.specs.declared.snapshot.Snapshot.{Snapshot}
 use Rattle.refusals.specs.declared.refusal.Refusal.{Refusal}
-use Rattle.scan.proofs.Taken.{Taken, Orderly, orderly}
+use Rattle.scan.proofs.Taken.{Taken, Orderly, orderly, lsn-multiple, place-multiple}
 use Rattle.scan.specs.Headers.{head_at, head_mark, weight, odd}
 use Rattle.scan.specs.Order.{Segment, Gathered, sound, unless, gathered, top_mark}
 use Rattle.walks.specs.Finish.{Ended, finish}
 use Rattle.walks.specs.Recover.{or_zero, lowest, checked, at_last, closed, folded, walked, ordered, recovered, left}
-use Rattle.walks.specs.Walk.{Walked, walk}
+use Rattle.walks.specs.Walk.{Walked, with_held, walk}
 use Rattle.walks.specs.Walks.{tail, start_of, first_walk, last_limit, last_walk, walks}
 use Rattle.recovery.specs.Finishing.{Clean, Finished, walked_to, snap_reply}
 use Rattle.recovery.specs.declared.finish.Reached.{Reached}
 use Rattle.walks.proofs.Ranges.{reach}
 use Rattle.recovery.specs.Small.{Small}
-use Rattle.recovery.proofs.Cleans.{scanned_room, scan_ran, walk_clean}
-use Rattle.recovery.proofs.Checked.{Fit, first, first_fit, first_none, first_some}
-use Rattle.walks.proofs.Ranges.{none_walked}
+use Rattle.recovery.proofs.Cleans.{all_of, drop_all_of, scanned_room, scan_ran, walk_clean}
+use Rattle.recovery.proofs.Checked.{Fit, checked_rest, first, first_fit, first_none, first_some}
+use Rattle.walks.proofs.Ranges.{Ran, HeldAt, rises_up, none_walked}
+use Rattle.recovery.proofs.Formed.{finished_formed}
+use Rattle.pages.proofs.Sound.{fold-sound}
+use Rattle.pages.specs.Rising.{Rising}
 use Rattle.recovery.proofs.Finishes.{zero_or, finish_by, finish-pages}
 use Rattle.recovery.proofs.Zeros.{alike_refl}
 use Rattle.recovery.specs.Checks.{budget_of, first_reply}
@@ -77,12 +80,13 @@ module _ (notes : ℕ → Option Note) (d : Meaning) (s : ℕ) (given : Snapshot
   abbrev laid : Bool
   laid = tidy 0 given.pages.now given.fragments.now
 
-  pub refused : (f : Refusal) (t : PageTable) (r : Result Recovered Refusal) → x ≡ Err f → r ≡ Err f → Attempted d d t x r
+  pub refused : (f : Refusal) (t : PageTable) (r : Result Recovered Refusal) → x ≡ Err f → r ≡ Err f → Attempted s d d t x r
   unfolding reply_of left
   refused f t r e q = record {
     reply = q ∙ sym (ap reply_of e);
     device = subst (λ o. Alike d (left d o)) (sym e) (alike_refl d);
     pages = subst (λ o. OnOk o (Settled (pages_of x) t)) (sym q) tt;
+    formed = λ k i. absurd (let z : ◌≡◌ {A = Result Ended Refusal} (Err f) (Ok k) = sym e ∙ i in let y : ◌≡◌ {A = ℕ} 0 1 = cc in omega arith);
   }
 
   pub at_checks : (f : Refusal) → Err f ≡ first_reply d s given b → x ≡ Err f
@@ -90,8 +94,8 @@ module _ (notes : ℕ → Option Note) (d : Meaning) (s : ℕ) (given : Snapshot
   at_checks f e = let q = first_some notes d s given b f e in grind arith
 
   -- of a size and of memory as they were asked for
-  pub as_asked : (size : ℕ) (m : Lent) → s ≡ size → b ≡ m → (after : Meaning) (t : PageTable) (r : Result Recovered Refusal) → Attempted d after t x r → Attempted d after t (recover_of notes d size given (budget_of m)) r
-  as_asked size m e q after t r a = subst (λ z. Attempted d after t (recover_of notes d size given (budget_of z)) r) q (subst (λ z. Attempted d after t (recover_of notes d z given (budget_of b)) r) e a)
+  pub as_asked : (size : ℕ) (m : Lent) → s ≡ size → b ≡ m → (after : Meaning) (t : PageTable) (r : Result Recovered Refusal) → Attempted s d after t x r → Attempted size d after t (recover_of notes d size given (budget_of m)) r
+  as_asked size m e q after t r a = subst (λ z. Attempted size d after t (recover_of notes d size given (budget_of z)) r) q (subst (λ z. Attempted z d after t (recover_of notes d z given (budget_of b)) r) e a)
 
   pub passed_by : (size : ℕ) → Ok s ≡ first_reply d size given b → (first notes d s given b ≡ None) × (s ≡ size)
   passed_by size e =
@@ -249,6 +253,40 @@ module _ (notes : ℕ → Option Note) (d : Meaning) (s : ℕ) (given : Snapshot
               pages_are : end.snap.pages ≡ flat u
               pages_are = finish-pages s (snap_of given) (flat u) (walked_to r) as_given
 
+              run : Ran s least (2 ^ 62) ss over
+              run = scan_ran notes s d.bytes (Some (last_limit start opening.current)) true least n ss fit.sized in_order least-small
+
+              current_is : r.current ≡ over.current
+              current_is = f.current ∙ ap (λ (q : Walked). q.current) w-is
+
+              held_is : r.held ≡ over.held
+              held_is = f.held ∙ ap (λ (q : Walked). q.held) w-is
+
+              sound_at : (c : ℕ) → r.current ≡ Some c → (c ≤ 2 ^ 62) × ((top : ℕ) → c ≤ top → or_zero given.stable_lsn ≤ top → sound_pages top (flat u) ≡ true)
+              sound_at c e =
+                  let k : over.current ≡ Some c = sym current_is ∙ e in
+                  let rises : Rising least c over.records = subst (λ o. Rising least (reach least o) over.records) k run.rises in (
+                    subst (λ o. reach least o ≤ 2 ^ 62) k run.below,
+                    (λ top h l.
+                        fold-sound (length t.states.now) (length t.fragments.now) low least top (flat t) (flat u) w.records (omega (arith, lo))
+                        (subst (λ (q : Walked). Rising least top q.records) (sym w-is) (rises_up least c top over.records h rises))
+                        (subst (λ ps. sound_pages low ps ≡ true) (sym pages) (given_sound low lo).sound) f.pages),
+                  )
+
+              held_at : (g : Segment) → r.held ≡ Some g → (g.key % s ≡ 0) × (g.value % s ≡ 0) × HeldAt s (Some g) r.current
+              held_at g e =
+                  let k : over.held ≡ Some g = sym held_is ∙ e in
+                  let here : drop run.taken ss ≡ g ∷ over.left = sym run.others ∙ ap (λ o. with_held o over.left) k in
+                  let t = subst (All (Taken s d.bytes least n)) here (drop_all_of (Taken s d.bytes least n) run.taken ss (all_of (Taken s d.bytes least n) ss in_order.all)) 0 g (omega arith) in (
+                    lsn-multiple s d.bytes least n g t,
+                    place-multiple s d.bytes least n g t,
+                    subst (HeldAt s (Some g)) (sym current_is) (subst (λ o. HeldAt s o over.current) k run.held),
+                  )
+
+              end_formed : or_zero given.stable_lsn ≤ or_zero end.snap.stable → well_formed s end.snap ≡ true
+              unfolding snap_of
+              end_formed l = finished_formed s fit.sized (snap_of given) (flat u) (walked_to r) fit.formed sound_at held_at l
+
               -- what is told of the end
               module _ (after : Meaning) where
                 abbrev Ends : Result (Option ℕ × Option ℕ) Refusal → Type 0
@@ -261,6 +299,14 @@ module _ (notes : ℕ → Option Note) (d : Meaning) (s : ℕ) (given : Snapshot
                     go : (o : Result Ended Refusal) → Err h ≡ snap_reply o → o ≡ Err h
                     go (Err k) e = ap Err (cc)
                     go (Ok q) e = absurd (let z : ◌≡◌ {A = ℕ} 0 1 = cc in omega arith)
+
+                stays : closed notes d s laid (snap_of given) (budget_of b) end ≡ Ok end → or_zero given.stable_lsn ≤ or_zero end.snap.stable
+                unfolding closed at_last snap_of
+                stays e = go (checked (at_last notes d s laid (snap_of given) (budget_of b) end)) refl
+                  where
+                    go : (o : Option Refusal) → checked (at_last notes d s laid (snap_of given) (budget_of b) end) ≡ o → or_zero given.stable_lsn ≤ or_zero end.snap.stable
+                    go None k = let q = (checked_rest _ _ k).0 in grind (arith, nat_tests)
+                    go (Some h) k = absurd (let z : ◌≡◌ {A = Result Ended Refusal} (Err h) (Ok end) = (let q : closed notes d s laid (snap_of given) (budget_of b) end ≡ Err h = grind arith in sym q ∙ e) in let y : ◌≡◌ {A = ℕ} 0 1 = cc in omega arith)
 
                 ended_by : (stable active : Option ℕ) → Ends (Ok (stable, active)) → (closed notes d s laid (snap_of given) (budget_of b) end ≡ Ok end) × (stable ≡ end.snap.stable) × (active ≡ end.snap.active)
                 unfolding closed
@@ -279,7 +325,7 @@ module _ (notes : ℕ → Option Note) (d : Meaning) (s : ℕ) (given : Snapshot
                         absurd (let y : ◌≡◌ {A = ℕ} 0 1 = cc in omega arith)
 
                 pub attempted : (stable active : Option ℕ) → Ends (Ok (stable, active)) → (v : PageTable) → Settled (flat u) v → (count used : ℕ) → count ≡ v.count → used ≡ v.used
-                    → Attempted d after v x (Ok (record { stable_lsn = stable; active_segment = active; pages = count; fragments = used }))
+                    → Attempted s d after v x (Ok (record { stable_lsn = stable; active_segment = active; pages = count; fragments = used }))
                 unfolding reply_of pages_of
                 attempted stable active i v settled count used c k =
                     let e = ended_by stable active i in
@@ -290,4 +336,5 @@ module _ (notes : ℕ → Option Note) (d : Meaning) (s : ℕ) (given : Snapshot
                       reply = cc (e.1, e.2, n, m) ∙ sym (ap reply_of q);
                       device = subst (λ o. Alike after (left d o)) (sym to_end) i.device;
                       pages = subst (λ o. Settled (pages_of o) v) (sym q) (subst (λ ps. Settled ps v) (sym pages_are) settled);
+                      formed = λ z h. let same : ◌≡◌ {A = Result Ended Refusal} (Ok end) (Ok z) = sym q ∙ h in let i : end ≡ z = cc in subst (λ y. well_formed s y.snap ≡ true) i (end_formed (stays e.0));
                     }

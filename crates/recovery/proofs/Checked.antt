@@ -14,7 +14,7 @@ use Rattle.recovery.specs.Checks.{budget_of, unless_some, first_reply}
 use Rattle.recovery.specs.declared.checks.Budget.{Budget as Lent}
 
 -- a test that does not apply, and those behind it
-checked_rest : (t : Bool × Refusal) (ts : List (Bool × Refusal)) → checked (t ∷ ts) ≡ None → (t.0 ≡ false) × (checked ts ≡ None)
+pub checked_rest : (t : Bool × Refusal) (ts : List (Bool × Refusal)) → checked (t ∷ ts) ≡ None → (t.0 ≡ false) × (checked ts ≡ None)
 unfolding checked
 checked_rest t ts e = go t.0 refl
   where

@@ -17,7 +17,7 @@ use Rattle.recovery.specs.Finishing.{Room, Clean}
 use Rattle.recovery.specs.declared.finish.Reached.{Reached}
 
 -- ---- the segments of a scan
-all_of : (P : Segment → Type 0) (ss : List Segment) → AllByRecursion P ss → (k : ℕ) (d : Segment) → k < length ss → P (get_or ss k d)
+pub all_of : (P : Segment → Type 0) (ss : List Segment) → AllByRecursion P ss → (k : ℕ) (d : Segment) → k < length ss → P (get_or ss k d)
 all_of P [] a k d h = absurd (omega arith)
 all_of P (s ∷ ss) a zero d h = a.0
 all_of P (s ∷ ss) a (suc k) d h = all_of P ss a.1 k d (omega arith)
@@ -48,7 +48,7 @@ module _ (size : ℕ) (dev : List ℕ) (low n capacity : ℕ) (ss : List Segment
       }
 
 -- ---- a walk over the segments of a scan
-drop_all_of : (P : Segment → Type 0) (k : ℕ) (ss : List Segment) → All P ss → All P (drop k ss)
+pub drop_all_of : (P : Segment → Type 0) (k : ℕ) (ss : List Segment) → All P ss → All P (drop k ss)
 drop_all_of P k ss a i d h = rw get_or-drop (a (k + i) d (omega (arith, length-drop k ss)))
 
 drop_apart : (k : ℕ) (ss : List Segment) → AllPairs (λ (a b : Segment). a.value ≢ b.value) ss → AllPairs (λ (a b : Segment). a.value ≢ b.value) (drop k ss)

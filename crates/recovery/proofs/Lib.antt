@@ -10,6 +10,7 @@ pub mod Finishes
 pub mod Firsts
 pub mod Flats
 pub mod Folds
+pub mod Formed
 pub mod Loaded
 pub mod Loads
 pub mod Orders

@@ -1,5 +1,5 @@
 // A recover: from a device, a blob source and a snapshot to a new snapshot.
-ghost use Rattle.std.specs.Prelude.{◌≡◌, length, replicate, OnErr};
+ghost use Rattle.std.specs.Prelude.{◌≡◌, length, take, replicate, OnErr};
 ghost use Rattle.recovery.specs.Finishing.{meaning_of};
 ghost use Rattle.recovery.specs.Flat.{Cleared, SameTables};
 ghost use Rattle.recovery.specs.Recovers.{lent, recover_of, Attempted, Recovers};
@@ -27,6 +27,23 @@ pub struct Recovered {
     pub fragments: usize,
 }
 
+impl Recovered {
+    // The snapshot that came out, over the result tables that it stands in.
+    pub fn snapshot<'a>(&self, pages: &'a [PageState], fragments: &'a [Fragment]) -> Snapshot<'a>
+        ensures stable { result.stable_lsn ≡ self.now.stable_lsn }
+        ensures active { result.active_segment ≡ self.now.active_segment }
+        ensures pages { result.pages.now ≡ take self.now.pages pages.now }
+        ensures fragments { result.fragments.now ≡ take self.now.fragments fragments.now }
+    {
+        Snapshot {
+            stable_lsn: self.stable_lsn,
+            active_segment: self.active_segment,
+            pages: &pages[..self.pages.min(pages.len())],
+            fragments: &fragments[..self.fragments.min(fragments.len())],
+        }
+    }
+}
+
 // The buffers and the tables are left as they come.
 fn attempt<D: Device, B: BlobSource>(
     device: &mut D,
@@ -42,7 +59,7 @@ fn attempt<D: Device, B: BlobSource>(
     ensures kept { OnErr result (device.new ≡ device.old) }
     ensures told { let means = meaning_of D.ReadAt.bytes D.Device.capacity D.Device.block_size D.Device.loose D.Device.spare in
         let budget = lent (length segment.old) (length body.old) (length order.old) (length pages.old.states.now) (length pages.old.fragments.now) in
-        Attempted (means device.old) (means device.new) pages.new (recover_of (B.BlobSource.notes source.now) (means device.old) size given.now budget) result }
+        Attempted size (means device.old) (means device.new) pages.new (recover_of (B.BlobSource.notes source.now) (means device.old) size given.now budget) result }
     ensures tables { SameTables pages.old pages.new }
 {
     let budget = pages.budget(segment.len(), body.len(), order.len());
@@ -81,7 +98,7 @@ pub fn recover<D: Device, B: BlobSource>(
 ) -> Result<Recovered, Refusal>
     ensures done { let means = meaning_of D.ReadAt.bytes D.Device.capacity D.Device.block_size D.Device.loose D.Device.spare in
         let budget = lent (length segment.old) (length body.old) (length order.old) (length pages.old) (length fragments.old) in
-        Recovers (means device.old) (means device.new) (recover_of (B.BlobSource.notes source.now) (means device.old) size given.now budget) result pages.new fragments.new }
+        Recovers size (means device.old) (means device.new) (recover_of (B.BlobSource.notes source.now) (means device.old) size given.now budget) result pages.new fragments.new }
     ensures kept { OnErr result (device.new ≡ device.old) }
     ensures segment { segment.new ≡ replicate (length segment.old) 0 }
     ensures body { body.new ≡ replicate (length body.old) 0 }

@@ -20,6 +20,10 @@ pub rises_ends : (low top : ℕ) (rs : List Record) → Rising low top rs → lo
 rises_ends low top [] r = r
 rises_ends low top (x ∷ rs) r = omega arith
 
+pub rises_up : (low top over : ℕ) (rs : List Record) → top ≤ over → Rising low top rs → Rising low over rs
+rises_up low top over [] h r = omega arith
+rises_up low top over (x ∷ rs) h r = (r.0, omega arith, rises_up (suc x.lsn) top over rs h r.2)
+
 rises_join : (low mid top : ℕ) (rs qs : List Record) → Rising low mid rs → Rising mid top qs → Rising low top (rs ++ qs)
 rises_join low mid top [] qs r q = rises_low low mid top qs r q
 rises_join low mid top (x ∷ rs) qs r q = (r.0, (let e = rises_ends mid top qs q in omega arith), rises_join (suc x.lsn) mid top rs qs r.2 q)

@@ -101,7 +101,7 @@ module _ (notes : ℕ → Option Note) (limit : Option ℕ) (last : Bool) where
   understood_at place lsn (Err Ended) = tt
 
 -- a place of a segment has the progress that was added
-progress_is : (size value p : ℕ) → value % size ≡ 0 → p < size → (value + p) % size ≡ p
+pub progress_is : (size value p : ℕ) → value % size ≡ 0 → p < size → (value + p) % size ≡ p
 progress_is size value p a h =
     let e : value / size * size + value % size ≡ value = div-add-mod' value size in
     let z : value + p ≡ value / size * size + p = omega arith in

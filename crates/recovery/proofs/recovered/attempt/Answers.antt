@@ -241,7 +241,7 @@ returns-in_err-stable_lsn-clause-told g c =
     let f = c.in_err-stable_lsn.field-0.0 in
     let e = at_end notes dev s given b p.0 least le none.0 ss c.order_segments.ensures.contents start none.1 low lo t u shown states room reached done after f (c.in_err-stable_lsn.ensures.done notes (tidy 0 given.pages.now given.fragments.now) (budget_of b) (flat u)) in
     as_asked notes dev s given b c.args.size _ p.1 c.budget-budget.ensures after v c.from_residual-in_err-stable_lsn.result
-    (subst (λ k. Attempted dev (meaning_of g.D.ReadAt.bytes g.D.Device.capacity g.D.Device.block_size g.D.Device.loose g.D.Device.spare k) v (recover_of notes dev s given (budget_of b)) c.from_residual-in_err-stable_lsn.result) (sym c.in_err-stable_lsn.ensures.kept)
+    (subst (λ k. Attempted s dev (meaning_of g.D.ReadAt.bytes g.D.Device.capacity g.D.Device.block_size g.D.Device.loose g.D.Device.spare k) v (recover_of notes dev s given (budget_of b)) c.from_residual-in_err-stable_lsn.result) (sym c.in_err-stable_lsn.ensures.kept)
     (refused notes dev s given b f v c.from_residual-in_err-stable_lsn.result e (r.1 ∙ ap Err r.2)))
 
 pub returns-clause-told : goal.returns-clause-told
