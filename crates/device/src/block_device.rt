@@ -7,6 +7,7 @@ use layout::SegmentSize;
 
 // Bytes from the place 0 on that can be written. Block b is the places from b * block size on. A loose block is written at
 // no cost; the first write to any other makes it loose and takes a spare one.
+// That the first place is 0 is a law, and stands besides in the contract of each method: behind a `dyn` no law is known.
 pub trait Device: ReadAt {
     ghost capacity: { Self → ℕ };
 
@@ -17,24 +18,30 @@ pub trait Device: ReadAt {
     ghost spare: { Self → ℕ };
 
     fn len(&self) -> u64
+        ensures base { Self.ReadAt.first self.now ≡ 0 }
         ensures value { result ≡ length (Self.ReadAt.bytes self.now) }
         ensures bound { result ≤ capacity self.now };
 
     fn capacity(&self) -> u64
+        ensures base { Self.ReadAt.first self.now ≡ 0 }
         ensures value { result ≡ capacity self.now }
         ensures bound { result < 2 ^ 64 };
 
     fn block_size(&self) -> SegmentSize
-        ensures { result ≡ block_size self.now };
+        ensures base { Self.ReadAt.first self.now ≡ 0 }
+        ensures value { result ≡ block_size self.now };
 
     fn is_loose(&self, block: u64) -> bool
-        ensures { result ≡ loose self.now block };
+        ensures base { Self.ReadAt.first self.now ≡ 0 }
+        ensures value { result ≡ loose self.now block };
 
     fn spare(&self) -> u64
-        ensures { result ≡ spare self.now };
+        ensures base { Self.ReadAt.first self.now ≡ 0 }
+        ensures value { result ≡ spare self.now };
 
     // Puts `src` at `at`, with zeros in a gap before it. An empty write is accepted anywhere.
     fn write(&mut self, src: &[u8], at: u64) -> Result<(), DeviceError>
+        ensures base { (Self.ReadAt.first self.old ≡ 0) × (Self.ReadAt.first self.new ≡ 0) }
         ensures reply { result ≡ write_reply (capacity self.old) (block_size self.old) (loose self.old) (spare self.old) at (length src.now) }
         ensures kept { OnErr result (self.new ≡ self.old) }
         ensures bytes { Self.ReadAt.bytes self.new ≡ (if is_ok result

@@ -1,4 +1,6 @@
 // Reads and writes at their limits.
+ghost use Rattle.std.specs.Prelude.{◌≡◌, length};
+
 use super::*;
 use std::test::Fail;
 
@@ -73,5 +75,20 @@ fn sizes(rt: HostRuntime) -> Result<(), Fail> {
         assert!(rt; Image::from_bytes(rt.alloc(), size, 3, b"abcd").is_err());
         assert!(rt; Image::from_bytes(rt.alloc(), size, 4, b"abcd")?.bytes() == b"abcd".as_slice());
     }
+    Ok(())
+}
+
+// Behind a `dyn` too it is known that the first place is 0.
+fn end_of(device: &dyn Device) -> u64
+    ensures base { first device.now ≡ 0 }
+    ensures value { result ≡ length (bytes device.now) }
+{
+    device.len()
+}
+
+#[test]
+fn behind_dyn(rt: HostRuntime) -> Result<(), Fail> {
+    let image = Image::from_bytes(rt.alloc(), 256, 300, b"abcd")?;
+    assert_eq!(rt; end_of(&image), 4);
     Ok(())
 }

@@ -1,5 +1,6 @@
 // The bytes of a message, judged before its kind is looked at.
-ghost use Rattle.std.specs.Prelude.{◌≡◌, ◌+◌, ◌-◌, ◌%◌, ◌≤◌, true, false, length, MatchResult, Ok, Err, if◌then◌else◌};
+ghost use Rattle.std.specs.Prelude.{◌≡◌, ◌+◌, ◌-◌, ◌%◌, ◌≤◌, true, false, length, replicate, MatchResult, Ok, Err, if◌then◌else◌};
+ghost use Rattle.layout.specs.Sizes.{is_segment_size};
 ghost use Rattle.device.specs.Reads.{inside, part};
 ghost use Rattle.messages.specs.declared.log_read.NoMessage.TheVariants.{Short};
 ghost use Rattle.messages.specs.Spots.{Entered};
@@ -108,20 +109,19 @@ impl<R: ReadAt> Spot<'_, R> {
         self.judge_long(body, h, header, self.place + hl as u64)
     }
 
-    // The bytes read ahead there. Short where no message may begin, or outside of the view.
-    fn read_ahead(&self) -> Result<[u8; AHEAD], NoMessage>
+    // Reads ahead into a window of zeros, which is lent: given out, its bytes would be copied. Short outside of the view.
+    fn read_ahead(&self, window: &mut [u8; AHEAD]) -> Result<(), NoMessage>
+        requires sized { is_segment_size self.now.size ≡ true }
+        requires entry { is_entry self.now.size (self.now.place % self.now.size) ≡ true }
+        requires zeros { window.old ≡ replicate 128 0 }
         ensures { MatchResult result
-            (λ w. (starts self.now.size (R.ReadAt.first self.now.view.now) (R.ReadAt.bytes self.now.view.now) self.now.place ≡ true)
-            × Entered self.now.size self.now.place (R.ReadAt.first self.now.view.now) (R.ReadAt.bytes self.now.view.now) w)
+            (λ _. (starts self.now.size (R.ReadAt.first self.now.view.now) (R.ReadAt.bytes self.now.view.now) self.now.place ≡ true)
+            × Entered self.now.size self.now.place (R.ReadAt.first self.now.view.now) (R.ReadAt.bytes self.now.view.now) window.new)
             (λ e. (starts self.now.size (R.ReadAt.first self.now.view.now) (R.ReadAt.bytes self.now.view.now) self.now.place ≡ false) × (e ≡ Short)) }
     {
-        let size = self.size.bytes();
-        if !is_entry(size, self.place % size) {
-            return Err(NoMessage::Short);
-        }
-        let mut w = [0u8; AHEAD];
-        self.view.pread_exact_or_eof(&mut w, self.place)?;
-        Ok(w)
+        let place = self.place;
+        self.view.pread_exact_or_eof(window, place)?;
+        Ok(())
     }
 
     // The message there.
@@ -131,7 +131,12 @@ impl<R: ReadAt> Spot<'_, R> {
         ensures value { result ≡ raw_at self.now.size self.now.number (R.ReadAt.first self.now.view.now) (R.ReadAt.bytes self.now.view.now) self.now.place }
         ensures body { body.new ≡ cleared (body_read self.now.size (R.ReadAt.first self.now.view.now) (R.ReadAt.bytes self.now.view.now) self.now.place) body.old }
     {
-        let w = self.read_ahead()?;
+        let size = self.size.bytes();
+        if !is_entry(size, self.place % size) {
+            return Err(NoMessage::Short);
+        }
+        let mut w = [0u8; AHEAD];
+        self.read_ahead(&mut w)?;
         let (h, rest) = MessageHeader::deserialize(&w)?;
         self.judge(body, &w, h, AHEAD.saturating_sub(rest.len()))
     }

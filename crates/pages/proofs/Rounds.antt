@@ -6,14 +6,14 @@ use Rattle.std.proofs.lemmas.Bool.{cases_lt}
 use Rattle.std.proofs.lemmas.Nat.{div-add-mod', div-mul-add, mod_below}
 use Rattle.pages.specs.Snapshots.{round_up}
 
-round_up-whole : (size n : ℕ) → 0 < size → n % size ≡ 0 → round_up size n ≡ n
+pub round_up-whole : (size n : ℕ) → 0 < size → n % size ≡ 0 → round_up size n ≡ n
 unfolding round_up
 round_up-whole size n h e =
     let d = div-add-mod' n size in
     let s : n + (size - 1) ≡ n / size * size + (size - 1) = omega arith in
     ap (λ m. m / size * size) s ∙ ap (λ q. q * size) (div-mul-add (n / size) size (size - 1) (omega arith)) ∙ omega arith
 
-round_up-part : (size n : ℕ) → 0 < size → (n % size ≡ 0 → ⊥) → round_up size n ≡ n + (size - n % size)
+pub round_up-part : (size n : ℕ) → 0 < size → (n % size ≡ 0 → ⊥) → round_up size n ≡ n + (size - n % size)
 unfolding round_up
 round_up-part size n h e =
     let d = div-add-mod' n size in

@@ -25,7 +25,7 @@ shorter n size l e =
 begun : (first place : ℕ) (bytes : List ℕ) → begins first bytes place ≡ true → place ≤ first + length bytes
 begun first place bytes h = grind (arith, nat_tests)
 
-loaded : (first place size n k : ℕ) (bytes dst after tail : List ℕ) → first ≡ 0 → k ≡ size → length dst ≡ k → Ok n ≡ eof_reply first bytes place k → after ≡ filled first bytes place dst → take n (after ++ tail) ≡ segment_bytes size bytes place
+pub loaded : (first place size n k : ℕ) (bytes dst after tail : List ℕ) → first ≡ 0 → k ≡ size → length dst ≡ k → Ok n ≡ eof_reply first bytes place k → after ≡ filled first bytes place dst → take n (after ++ tail) ≡ segment_bytes size bytes place
 unfolding segment_bytes
 loaded first place size n k bytes dst after tail z q l r a =
     let o = eof_ok first place k n bytes r in
@@ -40,7 +40,7 @@ loaded first place size n k bytes dst after tail z q l r a =
     ap (λ y. take n (y ++ tail)) (a ∙ ap (λ y. y ++ drop av dst) x) ∙ ap (take n) (append_assoc (take n (drop place bytes)) (drop av dst) tail)
     ∙ take_at (take n (drop place bytes)) (drop av dst ++ tail) n w ∙ shorter n size (drop place bytes) m
 
-loaded_none : (first place size k : ℕ) (bytes : List ℕ) (x : DeviceError) → first ≡ 0 → Err x ≡ eof_reply first bytes place k → [] ≡ segment_bytes size bytes place
+pub loaded_none : (first place size k : ℕ) (bytes : List ℕ) (x : DeviceError) → first ≡ 0 → Err x ≡ eof_reply first bytes place k → [] ≡ segment_bytes size bytes place
 unfolding segment_bytes
 loaded_none first place size k bytes x z r =
     let b = eof_err first place k bytes x r in

@@ -9,7 +9,7 @@ use Rattle.std.specs.List.{slice_get}
 use Rattle.tables.specs.declared.entry.Entry.{Entry}
 use Rattle.tables.specs.declared.table.SortedTable.{SortedTable}
 use Rattle.tables.specs.Entries.{rising, put, Located, laid}
-use Rattle.tables.specs.Views.{contents, capacity, lent, Same}
+use Rattle.tables.specs.Views.{contents, capacity, lent}
 use Rattle.tables.proofs.Moves.{LastFirst, inserted_by, removed_by}
 use Rattle.tables.proofs.Puts.{put_found, put_none, rising-put}
 use Rattle.tables.proofs.Ranks.{rank_most}

@@ -9,11 +9,14 @@ use crate::entry::Entry;
 use crate::fault::TableFault;
 use crate::table::SortedTable;
 
-// Makes every entry key 0 with the value. Not by `fill`, which asks of V that its `clone` cannot fail.
-fn blank_all<V: Copy>(entries: &mut [Entry<V>], value: V)
-    ensures { entries.new ≡ replicate (length entries.old) (record { key = 0; value = value }) }
+// Makes every entry blank. Not by `fill`, which asks of V that its `clone` cannot fail, nor by `fill_with`, by which more values
+// stand on the stack.
+fn blank_all<V: Copy>(entries: &mut [Entry<V>], blank: Entry<V>)
+    ensures { entries.new ≡ replicate (length entries.old) blank }
 {
-    entries.fill_with(|| Entry { key: 0, value });
+    for entry in entries.iter_mut() {
+        *entry = blank;
+    }
 }
 
 impl<'a, V: Copy> SortedTable<'a, V> {
@@ -24,7 +27,13 @@ impl<'a, V: Copy> SortedTable<'a, V> {
         ensures blank { result.blank ≡ blank }
         ensures lender { result.entries.ghost_name ≡ entries.entry.ghost_name }
     {
-        blank_all(entries, blank);
+        blank_all(
+            entries,
+            Entry {
+                key: 0,
+                value: blank,
+            },
+        );
         SortedTable {
             entries,
             len: 0,
@@ -80,7 +89,11 @@ impl<'a, V: Copy> SortedTable<'a, V> {
         ensures contents { contents self.new ≡ [] }
         ensures same { Same self.old self.new }
     {
-        blank_all(self.entries, self.blank);
+        let blank = Entry {
+            key: 0,
+            value: self.blank,
+        };
+        blank_all(self.entries, blank);
         self.len = 0;
     }
 }

@@ -5,6 +5,7 @@ mod edits;
 mod entry;
 mod fault;
 mod laws;
+mod places;
 mod reads;
 mod table;
 #[cfg(test)]

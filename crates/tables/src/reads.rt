@@ -6,6 +6,7 @@ ghost use Rattle.tables.specs.Entries.{find, Located};
 ghost use Rattle.tables.specs.Views.{contents, capacity};
 
 use crate::entry::Entry;
+use crate::places::locate;
 use crate::table::SortedTable;
 
 impl<'a, V: Copy> SortedTable<'a, V> {
@@ -21,7 +22,7 @@ impl<'a, V: Copy> SortedTable<'a, V> {
         ensures located { Located key (contents self.now) result }
         ensures within { IsSearchInRange result self.now.len }
     {
-        self.entries().binary_search_by_key(&key, |e| e.key)
+        locate(self.entries(), key)
     }
 
     // How many keys it has.

@@ -3,4 +3,4 @@
 
 mod turn;
 
-pub use turn::{Turn, past, turn_of};
+pub use turn::{Turn, past, turn_at, turn_of};

@@ -32,8 +32,9 @@ fn bounds(word: Word, limit: Option<Lsn>) -> bool
     word.lsn().is_some_and(|lsn| past(lsn, limit))
 }
 
+// What a message that was read does. It cannot fail; `turn_of` passes the fault of a read on.
 #[tactic(auto, unfolding(crate::specs::Walk::turn_of))]
-fn turn_at(limit: Option<Lsn>, last: bool, read: LogRead) -> Turn
+pub fn turn_at(limit: Option<Lsn>, last: bool, read: LogRead) -> Turn
     ensures { Ok result ≡ turn_of limit last (Ok read) }
 {
     match read {

@@ -1,5 +1,6 @@
 // How a cover is asked and written.
-ghost use Rattle.std.specs.Prelude.{◌≡◌, ℕ, ◌*◌, ◌-◌, ◌^◌, ◌<◌, ◌||◌, ◌==◌, nat_lt, if◌then◌else◌, true, Some, is_ok, IfOk, MatchResult, refl};
+ghost use Rattle.std.specs.Prelude.{◌≡◌, ℕ, ◌*◌, ◌-◌, ◌^◌, ◌<◌, ◌||◌, ◌==◌, nat_lt, if◌then◌else◌, true, Some, is_ok, IfOk, MatchResult, refl, None, vec_len, ◌+◌, ◌≤◌, ◌⊎◌, slice_index};
+ghost use Rattle.std.specs.Option.{ok_or};
 ghost use Rattle.device.specs.declared.error.DeviceError.TheVariants.{NoSpare};
 ghost use Rattle.cover.specs.Entries.{entry_of, unmarked};
 ghost use Rattle.cover.specs.Meaning.{entries, contents, covers};
@@ -10,13 +11,20 @@ use device::{Device, DeviceError};
 use layout::SegmentSize;
 
 impl<'a> Cover<'a> {
-    // The entry of a block. Where no entry names it, an unmarked one first gets it, and its bytes.
+    // The entry of a block. Where no entry names it, the first unmarked one gets it, and its bytes.
     fn cover_block(&mut self, block: u64) -> Result<usize, DeviceError>
         requires { block * self.old.geometry.block_size < 2 ^ 64 }
         ensures variant { is_ok result ≡ (covers self.old block || nat_lt 0 (unmarked (entries self.old))) }
         ensures reply { MatchResult result
             (λ i. entry_of (entries self.new) (Some block) ≡ Some i)
             (λ e. (e ≡ NoSpare) × (self.new ≡ self.old)) }
+        ensures taken { result ≡ ok_or (if covers self.old block
+            then entry_of (entries self.old) (Some block)
+            else entry_of (entries self.old) None) NoSpare }
+        ensures room { vec_len self.new.buf ≡ vec_len self.old.buf }
+        ensures others { IfOk result (λ i. (k : ℕ)
+            → (k < i * self.old.geometry.block_size) ⊎ (i * self.old.geometry.block_size + self.old.geometry.block_size ≤ k)
+            → slice_index self.new.buf.items k ≡ slice_index self.old.buf.items k) }
         ensures bytes { contents self.new ≡ contents self.old }
         ensures same { (self.new.geometry ≡ self.old.geometry) × (self.new.len ≡ self.old.len) }
         ensures covered { IfOk result (λ _. (b : ℕ) → covers self.new b ≡ (covers self.old b || b == block)) }

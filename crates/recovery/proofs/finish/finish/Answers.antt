@@ -26,13 +26,13 @@ returns-then-needed-spare-clause-done g c =
     let e = c.end-end in
     λ notes laid budget ps.
     finished_spent c.args.size (snap_of c.args.given.now) c.args.reached (m c.args.device.now) e.result c.requires.block c.requires.clean e.ensures.rest notes laid budget ps (e.ensures.end ps) c.unwrap_or.result c.unwrap_or-2.result c.unwrap_or.ensures
-    c.unwrap_or-2.ensures c.if-unwrap_or.false c.needed.result c.needed.ensures (omega (arith, c.spare.ensures, c.if-needed-spare.true))
+    c.unwrap_or-2.ensures c.if-unwrap_or.false c.needed.result c.needed.ensures (omega (arith, c.spare.ensures.value, c.if-needed-spare.true))
 
 pub write_zeros-requires-clause-takes : goal.write_zeros-requires-clause-takes
 write_zeros-requires-clause-takes g c =
     let m = meaning_of g.D.ReadAt.bytes g.D.Device.capacity g.D.Device.block_size g.D.Device.loose g.D.Device.spare in
     let e = c.end-end in
-    finish_takes c.args.size (snap_of c.args.given.now) c.args.reached (m c.args.device.now) e.result c.requires.block c.requires.clean e.ensures.rest c.needed.result c.needed.ensures (omega (arith, c.spare.ensures, c.if-needed-spare.false))
+    finish_takes c.args.size (snap_of c.args.given.now) c.args.reached (m c.args.device.now) e.result c.requires.block c.requires.clean e.ensures.rest c.needed.result c.needed.ensures (omega (arith, c.spare.ensures.value, c.if-needed-spare.false))
 
 pub returns-clause-done : goal.returns-clause-done
 unfolding snap_of
@@ -41,4 +41,4 @@ returns-clause-done g c =
     let e = c.end-end in
     λ notes laid budget ps.
     finished_ok c.args.size (snap_of c.args.given.now) c.args.reached (m c.args.device.now) e.result c.requires.block c.requires.clean e.ensures.rest notes laid budget ps (e.ensures.end ps) c.unwrap_or.result c.unwrap_or-2.result c.unwrap_or.ensures
-    c.unwrap_or-2.ensures c.if-unwrap_or.false c.needed.result c.needed.ensures (m c.write_zeros.new.device) (omega (arith, c.spare.ensures, c.if-needed-spare.false)) c.write_zeros.ensures
+    c.unwrap_or-2.ensures c.if-unwrap_or.false c.needed.result c.needed.ensures (m c.write_zeros.new.device) (omega (arith, c.spare.ensures.value, c.if-needed-spare.false)) c.write_zeros.ensures

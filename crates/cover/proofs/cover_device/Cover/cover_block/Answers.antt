@@ -69,3 +69,8 @@ returns-clause-bytes c =
     shown_marked size p c.bytes-size.result s.len same s.table _ (vec_items s.buf) _ s.medium.now c.args.block i free none c.mark.ensures
     (λ x h. elim h [ inl l ↦ grind (arith, places, with_items_is) | inr l ↦ grind (arith, places, with_items_is) ])
     (λ r h. let e = c.copy_padded.ensures r (grind (arith, places)) in grind (arith, places, with_items_is))
+
+pub returns-clause-others : goal.returns-clause-others
+returns-clause-others c = λ k h.
+    let same : c.bytes-size.result ≡ c.args.self.now.geometry.block_size = search rules in
+    elim h [ inl l ↦ grind (arith, places, with_items_is) | inr l ↦ grind (arith, places, with_items_is) ]

@@ -1,11 +1,16 @@
-use Rattle.std.proofs.Common.{◌^◌, ◌<◌, sym, rules}
+use Rattle.std.proofs.Common.{◌≡◌, ◌^◌, ◌<◌, List, ℕ, length, Ok, ap, ◌∙◌, subst, refl, rules}
+use Rattle.device.specs.Reads.{filled, eof_reply}
 use Rattle.messages.proofs.Entries.{entered}
 use Rattle.messages.proofs.spot.Spot.read_ahead.Goals as goal
 
 pub returns : goal.returns
 returns g c =
     let s = c.args.self.now in
+    let first = g.R.ReadAt.first s.view.now in
+    let bytes = g.R.ReadAt.bytes s.view.now in
     let a = c.in_ok-pread_exact_or_eof.ensures in
     let l : s.place < 2 ^ 64 = search rules in
-    entered s.size c.bytes-size.result s.place (g.R.ReadAt.first s.view.now) c.in_ok-pread_exact_or_eof.field-0 (g.R.ReadAt.bytes s.view.now) c.pread_exact_or_eof.new.dst
-    c.bytes-size.ensures.value c.bytes-size.ensures.sized l (sym c.if-not-is_entry.ensures) a.reply c.pread_exact_or_eof.auto.dst a.after
+    let reply = subst (λ (w : List ℕ). Ok c.in_ok-pread_exact_or_eof.field-0 ≡ eof_reply first bytes s.place (length w)) c.requires.zeros a.reply in
+    let after = subst (λ (w : List ℕ). c.pread_exact_or_eof.new.dst ≡ filled first bytes s.place w) c.requires.zeros a.after in
+    entered s.size s.size s.place first c.in_ok-pread_exact_or_eof.field-0 bytes c.pread_exact_or_eof.new.dst
+    refl c.requires.sized l c.requires.entry reply (c.pread_exact_or_eof.auto.dst ∙ ap length c.requires.zeros) after
