@@ -119,6 +119,7 @@ impl<R: ReadAt> Spot<'_, R> {
             × Entered self.now.size self.now.place (R.ReadAt.first self.now.view.now) (R.ReadAt.bytes self.now.view.now) window.new)
             (λ e. (starts self.now.size (R.ReadAt.first self.now.view.now) (R.ReadAt.bytes self.now.view.now) self.now.place ≡ false) × (e ≡ Short)) }
     {
+        // Read first, since its range is known from then on.
         let place = self.place;
         self.view.pread_exact_or_eof(window, place)?;
         Ok(())
